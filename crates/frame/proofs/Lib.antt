@@ -1,0 +1,6 @@
+pub mod Xor
+pub mod Multiples
+pub mod Remainders
+pub mod Messages
+pub mod Frames
+pub mod Laws

@@ -1,0 +1,4 @@
+pub mod Polynomials
+pub mod Crc
+pub mod Frames
+pub mod Laws

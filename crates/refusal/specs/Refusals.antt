@@ -1,0 +1,15 @@
+-- The number that document 01's table ("Number", "Trade's word", "Condition") gives each refusal. The only place where they stand.
+use Prim.Native.Nat.{ℕ}
+use Rattle.refusal.specs.declared.Refusal.{Refusal}
+use Rattle.refusal.specs.declared.Refusal.the-variants as refusal
+
+abbrev pub numberOf : Refusal → ℕ
+numberOf refusal.SizeMismatch = 1
+numberOf refusal.OutOfRange = 2
+numberOf refusal.UnmappedRegister = 3
+numberOf refusal.AccessViolation = 4
+numberOf refusal.InvalidClock = 5
+numberOf refusal.ActiveBuffer = 6
+numberOf refusal.FramingError = 7
+numberOf refusal.BadTrailer = 8
+numberOf refusal.BadRecord = 9

@@ -1,0 +1,41 @@
+// The refusals of document 01's list, and the number of each.
+ghost use mathlib.Core.Path.{_≡_};
+ghost use Rattle.refusal.specs.Refusals.{numberOf};
+
+// The comment gives document 01's word for it ("Trade's word").
+pub enum Refusal {
+    // misfit
+    SizeMismatch,
+    // no address
+    OutOfRange,
+    // no register
+    UnmappedRegister,
+    // wrong way
+    AccessViolation,
+    // no clock
+    InvalidClock,
+    // live buffer
+    ActiveBuffer,
+    // bad framing
+    FramingError,
+    // bad trailer
+    BadTrailer,
+    // bad record
+    BadRecord,
+}
+
+pub fn number(r: Refusal) -> u8
+    ensures { λ n. ⌜ n ≡ numberOf r ⌝ }
+{
+    match r {
+        Refusal::SizeMismatch => 1,
+        Refusal::OutOfRange => 2,
+        Refusal::UnmappedRegister => 3,
+        Refusal::AccessViolation => 4,
+        Refusal::InvalidClock => 5,
+        Refusal::ActiveBuffer => 6,
+        Refusal::FramingError => 7,
+        Refusal::BadTrailer => 8,
+        Refusal::BadRecord => 9,
+    }
+}
