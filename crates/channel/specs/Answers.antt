@@ -1,0 +1,22 @@
+-- Which of document 01's numbers and values each case of an answer in the code stands for.
+use Rattle.refusal.specs.Refusals.{numberOf}
+use Rattle.life.specs.Answers.{Answer}
+use Rattle.life.specs.Answers as ans
+use Rattle.channel.specs.declared.Outcome.{Outcome}
+use Rattle.channel.specs.declared.Outcome.the-variants as outcome
+use Rattle.channel.specs.declared.Shown.{Shown}
+use Rattle.channel.specs.declared.Shown.the-variants as shown
+use Rattle.channel.specs.declared.PartLength.{PartLength}
+use Rattle.channel.specs.declared.PartLength.the-variants as long
+
+abbrev pub outcomeOf : Outcome → Answer
+outcomeOf outcome.Done = ans.done
+outcomeOf (outcome.Refused k) = ans.refused (numberOf k)
+
+abbrev pub shownOf : Shown → Answer
+shownOf (shown.Value v) = ans.value v
+shownOf (shown.Refused k) = ans.refused (numberOf k)
+
+abbrev pub lengthOf : PartLength → Answer
+lengthOf (long.Words k) = ans.length k
+lengthOf (long.Refused k) = ans.refused (numberOf k)

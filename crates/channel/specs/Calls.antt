@@ -1,0 +1,149 @@
+-- Document 01, 'Calls' and 'Register map': the calls that name a channel, over its own part of the lent memory.
+-- Each refusal is decided by one definition (0: none), in the order of document 01's table; what a call does goes by cases on it.
+use Prim.Native.Nat.{ℕ, _+_, _-_, _*_}
+use mathlib.Core.Bool.{Bool, true, false, cond, _&&_, _||_}
+use mathlib.Core.List.{List, []}
+use lib.ListN.{length, set}
+use lib.Dec.{eqb, leb, ltb}
+use Rattle.refusal.specs.Refusals.{numberOf}
+use Rattle.refusal.specs.declared.Refusal.the-variants as refusal
+use Rattle.register_map.specs.AccessRule.{channelAccess}
+use Rattle.register_map.specs.Verdicts.{readRefusal, writeRefusal}
+use Rattle.status.specs.Bits.{bitAt, wordOf}
+use Rattle.status.specs.declared.Status.{Status}
+use Rattle.status.specs.declared.Latches.{Latches}
+use Rattle.status.specs.Latching.{enabled, clearedIn, takenIn}
+use Rattle.registers.specs.declared.Registers.{Registers}
+use Rattle.registers.specs.Map.{stored, loaded, secondOf, readbackPlace}
+use Rattle.sequencer.specs.Playing as seq
+use Rattle.readback.specs.Storing.{retiredPart}
+use Rattle.life.specs.declared.Channel.{Channel}
+use Rattle.life.specs.Answers.{Answer}
+use Rattle.life.specs.Answers as ans
+use Rattle.life.specs.State.{reset, withStatus, withRegisters, withSequencer}
+use Rattle.life.specs.Life.{commanded, commandWords, setpointPlace}
+
+-- refused with this number, or not
+abbrev pub unless : ℕ → Answer → Answer
+unless k a = cond (eqb k 0) a (ans.refused k)
+
+-- ---- Register write
+
+-- 3, 4, then 5: "clock code above 3"; "A code is the whole word written"
+unfoldable pub registerRefusal : ℕ → ℕ → ℕ
+registerRefusal offset value =
+    cond (eqb (writeRefusal (channelAccess offset)) 0)
+    (cond (eqb offset 0x0a) (cond (ltb 3 value) (numberOf refusal.InvalidClock) 0) 0)
+    (writeRefusal (channelAccess offset))
+
+-- 00 Interrupt Enable, 06 Reset, 08 Commands; the others hold what they keep of the value
+unfoldable pub registerEffect : Channel → ℕ → ℕ → Channel
+registerEffect c offset value =
+    cond (eqb offset 0x00) (withStatus c (enabled (c .status) value))
+    (cond (eqb offset 0x06) (cond (bitAt value 0) (reset c) c)
+    (cond (eqb offset 0x08) (commanded c value) (withRegisters c (stored (c .registers) offset value))))
+
+unfoldable pub writtenOf : Channel → ℕ → ℕ → Channel
+writtenOf c offset value = cond (eqb (registerRefusal offset value) 0) (registerEffect c offset value) c
+
+unfoldable pub writtenAnswer : ℕ → ℕ → Answer
+writtenAnswer offset value = unless (registerRefusal offset value) ans.done
+
+-- its readback words: Commands may write an end word
+unfoldable pub registerWords : Channel → List ℕ → ℕ → ℕ → ℕ → List ℕ
+registerWords c s m offset value = cond (eqb offset 0x08) (commandWords c s m value) s
+
+unfoldable pub writtenWords : Channel → List ℕ → ℕ → ℕ → ℕ → List ℕ
+writtenWords c s m offset value = cond (eqb (registerRefusal offset value) 0) (registerWords c s m offset value) s
+
+-- ---- Register read
+
+-- the status with one copy replaced
+abbrev pub withInterrupt : Status → Latches → Status
+withInterrupt s l = record { enable = s .enable; interrupt = l; polling = s .polling }
+
+abbrev pub withPolling : Status → Latches → Status
+withPolling s l = record { enable = s .enable; interrupt = s .interrupt; polling = l }
+
+-- "Reading a status clears the latched bits .. of that register only."
+unfoldable pub readEffect : Channel → ℕ → Channel
+readEffect c offset =
+    cond (eqb offset 0x02) (withStatus c (withInterrupt (c .status) (clearedIn (c .status .interrupt))))
+    (cond (eqb offset 0x04) (withStatus c (withPolling (c .status) (clearedIn (c .status .polling)))) c)
+
+unfoldable pub readValue : Channel → ℕ → ℕ
+readValue c offset =
+    cond (eqb offset 0x00) (c .status .enable)
+    (cond (eqb offset 0x02) (wordOf (c .status .interrupt .bits))
+    (cond (eqb offset 0x04) (wordOf (c .status .polling .bits)) (loaded (c .registers) offset)))
+
+unfoldable pub readOf : Channel → ℕ → Channel
+readOf c offset = cond (eqb (readRefusal (channelAccess offset)) 0) (readEffect c offset) c
+
+unfoldable pub readAnswer : Channel → ℕ → Answer
+readAnswer c offset = unless (readRefusal (channelAccess offset)) (ans.value (readValue c offset))
+
+-- ---- Setpoint write
+
+-- "channel, user, buffer or index (from 0) out of range", but for the channel
+abbrev pub outside : ℕ → ℕ → ℕ → Bool
+outside low high x = ltb x low || ltb high x
+
+-- the active one of a user's setpoint buffers, 1 or 2
+abbrev pub activeBuffer : Registers → ℕ → ℕ
+activeBuffer r user = cond (secondOf r (user - 1)) 2 1
+
+-- 2, then 6: "setpoint write to the active buffer of an armed channel", the named user's
+unfoldable pub setpointRefusal : Channel → ℕ → ℕ → ℕ → ℕ → ℕ
+setpointRefusal c n user buffer index =
+    cond (outside 1 8 user) (numberOf refusal.OutOfRange)
+    (cond (outside 1 2 buffer) (numberOf refusal.OutOfRange)
+    (cond (leb n index) (numberOf refusal.OutOfRange)
+    (cond (c .sequencer .armed && eqb buffer (activeBuffer (c .registers) user)) (numberOf refusal.ActiveBuffer) 0)))
+
+unfoldable pub setpointAnswer : Channel → ℕ → ℕ → ℕ → ℕ → Answer
+setpointAnswer c n user buffer index = unless (setpointRefusal c n user buffer index) ans.done
+
+unfoldable pub setpointWords : Channel → List ℕ → ℕ → ℕ → ℕ → ℕ → ℕ → List ℕ
+setpointWords c s n user buffer index word =
+    cond (eqb (setpointRefusal c n user buffer index) 0) (set s (setpointPlace (user - 1) (buffer - 1) n index) word) s
+
+-- ---- Arm, disarm
+
+unfoldable pub armedOf : Channel → Channel
+armedOf c = withSequencer c (seq.armed (c .sequencer))
+
+unfoldable pub disarmedOf : Channel → Channel
+disarmedOf c = withSequencer c (seq.disarmed (c .sequencer))
+
+-- ---- Retired readbacks
+
+-- "(M each for the two retired buffers)"
+abbrev pub retiredRefusal : ℕ → ℕ → ℕ → ℕ
+retiredRefusal m one two = cond (eqb one m) (cond (eqb two m) 0 (numberOf refusal.SizeMismatch)) (numberOf refusal.SizeMismatch)
+
+-- "gives the empty part when refused"
+unfoldable pub retiredWords : Channel → ℕ → List ℕ → List ℕ → List ℕ
+retiredWords c m one two =
+    cond (eqb (retiredRefusal m (length one) (length two)) 0)
+    (retiredPart (secondOf (c .registers) readbackPlace) (c .readbacks .retired) one two)
+    []
+
+-- what document 01 calls its twin: "answers the number or the part's length"
+unfoldable pub retiredLength : Channel → ℕ → List ℕ → List ℕ → Answer
+retiredLength c m one two = unless (retiredRefusal m (length one) (length two)) (ans.length (length (retiredWords c m one two)))
+
+-- the answer of the call itself: refused, or the part's words
+unfoldable pub retiredAnswer : Channel → ℕ → List ℕ → List ℕ → Answer
+retiredAnswer c m one two = unless (retiredRefusal m (length one) (length two)) (ans.part (retiredWords c m one two))
+
+-- ---- Main's statuses
+
+-- "reading Main 28 or 2A answers its bit and clears it there"; `polling` is 2A
+abbrev pub mainBit : Channel → Bool → Bool
+mainBit c polling = cond polling (c .status .polling .main) (c .status .interrupt .main)
+
+unfoldable pub mainTaken : Channel → Bool → Channel
+mainTaken c polling =
+    cond polling (withStatus c (withPolling (c .status) (takenIn (c .status .polling))))
+    (withStatus c (withInterrupt (c .status) (takenIn (c .status .interrupt))))

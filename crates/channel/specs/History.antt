@@ -1,0 +1,123 @@
+-- A history: what a channel by itself was called with, in which state, and what it ANSWERED. Laws over histories are stated with these.
+use Prim.Native.Nat.{ℕ, _+_}
+use mathlib.Core.Bool.{Bool, true, false, cond, _&&_, _||_}
+use mathlib.Core.List.{List, [], _∷_}
+use lib.Dec.{eqb}
+use Rattle.status.specs.Bits.{bitAt}
+use Rattle.registers.specs.Map.{triggersOf, groupEndEvent}
+use Rattle.sequencer.specs.Playing.{isIdle}
+use Rattle.life.specs.Answers.{Answer}
+use Rattle.life.specs.Answers as ans
+use Rattle.channel.specs.Alone.{ChannelCall, Alone, refusalOf, move, says}
+use Rattle.channel.specs.Alone as call
+
+pub record Entry : Type 0 where
+  pub before : Alone
+  pub call : ChannelCall
+  pub answer : Answer
+
+abbrev pub entry : Alone → ChannelCall → Entry
+entry o k = record { before = o; call = k; answer = says o k }
+
+abbrev pub history : Alone → List ChannelCall → List Entry
+history o [] = []
+history o (k ∷ ks) = entry o k ∷ history (move o k) ks
+
+-- ---- What an entry shows
+
+abbrev pub isFrame : Answer → Bool
+isFrame (ans.refused k) = false
+isFrame ans.done = false
+isFrame (ans.value v) = false
+isFrame (ans.bit b) = false
+isFrame (ans.frame f) = true
+isFrame ans.none = false
+isFrame ans.kept = false
+isFrame ans.lost = false
+isFrame ans.unsolicited = false
+isFrame (ans.part l) = false
+isFrame (ans.length k) = false
+
+-- a reply that was answered kept or lost
+abbrev pub isReceived : Answer → Bool
+isReceived (ans.refused k) = false
+isReceived ans.done = false
+isReceived (ans.value v) = false
+isReceived (ans.bit b) = false
+isReceived (ans.frame f) = false
+isReceived ans.none = false
+isReceived ans.kept = true
+isReceived ans.lost = true
+isReceived ans.unsolicited = false
+isReceived (ans.part l) = false
+isReceived (ans.length k) = false
+
+-- whether a call, not refused, is a Group End: the Group End event's code, or Commands with D2
+abbrev pub asksGroupEnd : Alone → ChannelCall → Bool
+asksGroupEnd o (call.writeRegister lent offset value) = eqb offset 0x08 && bitAt value 2
+asksGroupEnd o (call.readRegister offset) = false
+asksGroupEnd o (call.writeSetpoint lent user buffer index word) = false
+asksGroupEnd o call.arm = false
+asksGroupEnd o call.disarm = false
+asksGroupEnd o (call.reply lent f) = false
+asksGroupEnd o (call.retired one two) = false
+asksGroupEnd o (call.retiredLength one two) = false
+asksGroupEnd o (call.tick lent) = false
+asksGroupEnd o (call.event lent code) = triggersOf (o .channel .registers) groupEndEvent code
+asksGroupEnd o (call.changeUser user) = false
+asksGroupEnd o (call.writeMain lent offset value) = false
+asksGroupEnd o (call.readMain offset) = false
+
+-- whether it is a reset: Reset with D0
+abbrev pub asksReset : ChannelCall → Bool
+asksReset (call.writeRegister lent offset value) = eqb offset 0x06 && bitAt value 0
+asksReset (call.readRegister offset) = false
+asksReset (call.writeSetpoint lent user buffer index word) = false
+asksReset call.arm = false
+asksReset call.disarm = false
+asksReset (call.reply lent f) = false
+asksReset (call.retired one two) = false
+asksReset (call.retiredLength one two) = false
+asksReset (call.tick lent) = false
+asksReset (call.event lent code) = false
+asksReset (call.changeUser user) = false
+asksReset (call.writeMain lent offset value) = false
+asksReset (call.readMain offset) = false
+
+abbrev pub isRefused : Entry → Bool
+isRefused e = cond (eqb (refusalOf (e .before) (e .call)) 0) false true
+
+abbrev pub endsGroup : Entry → Bool
+endsGroup e = cond (isRefused e) false (asksGroupEnd (e .before) (e .call))
+
+abbrev pub resets : Entry → Bool
+resets e = cond (isRefused e) false (asksReset (e .call))
+
+-- it leaves the channel idle, or idled it on the way: a Group End whose event or command then started it again
+abbrev pub idles : Entry → Bool
+idles e = endsGroup e || isIdle (move (e .before) (e .call) .channel .sequencer .stage)
+
+-- ---- Counted along a history
+
+-- how many ticks answered a frame since the last Group End or reset, and `k` more before the history if it has none
+unfoldable pub framesSince : ℕ → List Entry → ℕ
+framesSince k [] = k
+framesSince k (e ∷ es) = framesSince (cond (endsGroup e || resets e) 0 (cond (isFrame (e .answer)) (k + 1) k)) es
+
+-- the last tick that answered a frame since the channel became not idle, if any, and the replies kept or lost after it
+pub record Window : Type 0 where
+  pub sent : Bool
+  pub replies : ℕ
+
+abbrev pub closed : Window
+closed = record { sent = false; replies = 0 }
+
+abbrev pub windowAfter : Window → Entry → Window
+windowAfter w e =
+    cond (idles e) closed
+    (cond (isFrame (e .answer)) (record { sent = true; replies = 0 })
+    (cond (isReceived (e .answer)) (record { sent = w .sent; replies = w .replies + 1 }) w))
+
+unfoldable pub windowSince : Window → List Entry → Window
+windowSince w [] = w
+windowSince w (e ∷ es) = windowSince (windowAfter w e) es

@@ -1,0 +1,3 @@
+pub mod Flips
+pub mod Laws
+pub mod Places

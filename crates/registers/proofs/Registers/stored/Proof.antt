@@ -1,0 +1,158 @@
+-- `registers::Registers::stored` meets its contract: at each offset the bits that its register keeps, and elsewhere nothing. Assumes nothing.
+use native.Mathlib.Omega.{arith}
+use native.Mathlib.Nat.{div-one}
+use mathlib.Core.Path.{sym}
+use Rattle.registers.specs.Map.{stored}
+use borrow.Author.Tests.{lt-ltb, le-ltb, eq-eqb, ne-eqb}
+use Rattle.registers.proofs.Places.{event-stored, delay-stored}
+use Rattle.registers.proofs.Registers.stored.Statement.{statement}
+use Rattle.registers.proofs.Registers.stored.Tie as tie
+
+returns : tie.Need-returns
+unfolding stored
+returns c = simp (eq-eqb _ _ (c .if1 .taken))
+
+cast-r : tie.Need-cast-r
+cast-r c = omega arith
+
+returns-2 : tie.Need-returns-2
+unfolding stored
+returns-2 c = simp (eq-eqb _ _ (c .if2 .taken), ne-eqb _ _ (c .before .if1 .left))
+
+returns-3 : tie.Need-returns-3
+unfolding stored
+returns-3 c =
+    simp (
+      lt-ltb _ _ (c .if3 .taken),
+      ne-eqb _ _ (c .before .if2 .left),
+      ne-eqb _ _ (c .before .before .if1 .left),
+    )
+
+sub-i : tie.Need-sub-i
+sub-i c = omega arith
+
+mul-r : tie.Need-mul-r
+mul-r c = omega arith
+
+element-write-r : tie.Need-element-write-r
+element-write-r c = omega arith
+
+returns-4 : tie.Need-returns-4
+returns-4 c = let a = c .before .before .before .before .args in sym (event-stored (a .self) (a .offset) (omega arith) (omega arith) (a .value))
+
+returns-5 : tie.Need-returns-5
+unfolding stored
+returns-5 c =
+    simp (
+      lt-ltb _ _ (c .if5 .taken),
+      le-ltb _ _ (c .before .if4 .left),
+      le-ltb _ _ (c .before .before .if3 .left),
+      ne-eqb _ _ (c .before .before .before .if2 .left),
+      ne-eqb _ _ (c .before .before .before .before .if1 .left),
+    )
+
+sub-i-2 : tie.Need-sub-i-2
+sub-i-2 c = omega arith
+
+element-write-r-2 : tie.Need-element-write-r-2
+element-write-r-2 c = omega arith
+
+returns-6 : tie.Need-returns-6
+unfolding stored
+returns-6 c =
+    simp (
+      div-one,
+      lt-ltb _ _ (c .if6 .taken),
+      le-ltb _ _ (c .before .if5 .left),
+      le-ltb _ _ (c .before .before .if4 .left),
+      le-ltb _ _ (c .before .before .before .if3 .left),
+      ne-eqb _ _ (c .before .before .before .before .if2 .left),
+      ne-eqb _ _ (c .before .before .before .before .before .if1 .left),
+    )
+
+sub-i-3 : tie.Need-sub-i-3
+sub-i-3 c = omega arith
+
+mul-old : tie.Need-mul-old
+mul-old c = omega arith
+
+element-copy-out-old : tie.Need-element-copy-out-old
+element-copy-out-old c = omega arith
+
+mul-r-2 : tie.Need-mul-r-2
+mul-r-2 c = omega arith
+
+add-r : tie.Need-add-r
+add-r c = omega arith
+
+mul-r-3 : tie.Need-mul-r-3
+mul-r-3 c = omega arith
+
+element-write-r-3 : tie.Need-element-write-r-3
+element-write-r-3 c = omega arith
+
+mul-r-4 : tie.Need-mul-r-4
+mul-r-4 c = omega arith
+
+add-r-2 : tie.Need-add-r-2
+add-r-2 c = omega arith
+
+mul-r-5 : tie.Need-mul-r-5
+mul-r-5 c = omega arith
+
+element-write-r-4 : tie.Need-element-write-r-4
+element-write-r-4 c = omega arith
+
+returns-7 : tie.Need-returns-7
+returns-7 c =
+    let a = c .before .before .before .before .before .before .before .before .before .args in
+    rw (delay-stored (a .self) (a .offset) (omega arith) (omega arith) (a .value)) (simp (eq-eqb _ _ (c .if8 .taken)))
+
+returns-8 : tie.Need-returns-8
+returns-8 c =
+    let a = c .before .before .before .before .before .before .before .before .before .args in
+    rw (delay-stored (a .self) (a .offset) (omega arith) (omega arith) (a .value)) (simp (ne-eqb _ _ (c .if8 .left)))
+
+returns-9 : tie.Need-returns-9
+unfolding stored
+returns-9 c =
+    simp (
+      le-ltb _ _ (c .if7 .left),
+      le-ltb _ _ (c .before .if6 .left),
+      le-ltb _ _ (c .before .before .if5 .left),
+      le-ltb _ _ (c .before .before .before .if4 .left),
+      le-ltb _ _ (c .before .before .before .before .if3 .left),
+      ne-eqb _ _ (c .before .before .before .before .before .if2 .left),
+      ne-eqb _ _ (c .before .before .before .before .before .before .if1 .left),
+    )
+
+pub stored-spec : {M : Type 1} → statement M
+stored-spec =
+    tie.close
+    (tie.spec
+    returns
+    cast-r
+    returns-2
+    returns-3
+    sub-i
+    mul-r
+    element-write-r
+    returns-4
+    returns-5
+    sub-i-2
+    element-write-r-2
+    returns-6
+    sub-i-3
+    mul-old
+    element-copy-out-old
+    mul-r-2
+    add-r
+    mul-r-3
+    element-write-r-3
+    mul-r-4
+    add-r-2
+    mul-r-5
+    element-write-r-4
+    returns-7
+    returns-8
+    returns-9)

@@ -1,0 +1,242 @@
+// The registers of a channel that hold what is written to them, and those that only show.
+// Interrupt Enable and both statuses stand in the crate `status`.
+ghost use mathlib.Core.Path.{_≡_};
+ghost use Prim.Native.Nat.{_+_, _-_};
+ghost use mathlib.Core.Bool.{false};
+ghost use lib.ListN.{getD};
+ghost use Rattle.registers.specs.Map.{opened, periodOf, matches, triggersOf, delayOf, secondOf, stored, loaded, flips, groupEnded};
+
+pub struct Registers {
+    // 0A
+    pub clock: u16,
+    // 0E, bit by bit: users 1-8 from D0, the readback buffers at D8; set: buffer 2 is active
+    pub active: [bool; 16],
+    // 10 and 12
+    pub shown: u32,
+    // 14
+    pub id: u8,
+    // 20-2A: Start, Resume 1-4, Group End
+    pub events: [u16; 6],
+    // 30-3E, by user
+    pub switches: [bool; 8],
+    // 40-DE: eight users' start delays, then resume 1's, and so on to resume 4's
+    pub delays: [u32; 40],
+}
+
+// The ticks between two sends.
+pub fn period(clock: u16) -> u32
+    ensures { λ r. ⌜ r ≡ periodOf clock ⌝ }
+{
+    match clock {
+        0 => 10000,
+        1 => 1000,
+        2 => 100,
+        _ => 10,
+    }
+}
+
+// Whether an event register is active and holds this code.
+fn holds(register: u16, code: u8) -> bool
+    ensures { λ r. ⌜ r ≡ matches register code ⌝ }
+{
+    if register / 256 % 2 == 1 {
+        return register % 256 == code as u16;
+    }
+    false
+}
+
+// A user's place from 0.
+pub fn below(user: u8) -> u8
+    ensures { λ r. ⌜ r ≡ user - 1 ⌝ }
+{
+    if 0 < user {
+        return user - 1;
+    }
+    0
+}
+
+fn flag_at(a: [bool; 16], i: u8) -> bool
+    ensures { λ r. ⌜ r ≡ getD a i false ⌝ }
+{
+    let at = i as usize;
+    if at < 16 {
+        return a[at];
+    }
+    false
+}
+
+// The active buffers with those switched whose bit is set.
+fn flipped(active: [bool; 16], switches: [bool; 8]) -> [bool; 16]
+    ensures { λ r. ⌜ r ≡ flips active switches ⌝ }
+{
+    let mut a = active;
+    let mut i: usize = 0;
+    while i < 8 {
+        if switches[i] {
+            a[i] = !a[i];
+        }
+        i += 1;
+    }
+    a
+}
+
+impl Registers {
+    pub fn opened() -> Registers
+        ensures { λ r. ⌜ r ≡ opened ⌝ }
+    {
+        Registers {
+            clock: 0,
+            active: [false; 16],
+            shown: 0,
+            id: 0,
+            events: [0; 6],
+            switches: [false; 8],
+            delays: [0; 40],
+        }
+    }
+
+    // Whether a code is that of an event register: 0 Start, 1-4 Resume, 5 Group End.
+    pub fn triggers(self, event: u8, code: u8) -> bool
+        ensures { λ r. ⌜ r ≡ triggersOf self event code ⌝ }
+    {
+        let at = event as usize;
+        let e = self.events;
+        if at < 6 {
+            return holds(e[at], code);
+        }
+        false
+    }
+
+    // The start delay (bank 0) or the delay of resume 1-4 of a user.
+    pub fn delay(self, bank: u8, user: u8) -> u32
+        ensures { λ r. ⌜ r ≡ delayOf self bank user ⌝ }
+    {
+        let at = bank as usize * 8 + below(user) as usize;
+        let d = self.delays;
+        if at < 40 {
+            return d[at];
+        }
+        0
+    }
+
+    // Whether buffer 2 is the active one of a user's setpoint buffers.
+    pub fn second(self, user: u8) -> bool
+        ensures { λ r. ⌜ r ≡ secondOf self (user - 1) ⌝ }
+    {
+        let a = self.active;
+        flag_at(a, below(user))
+    }
+
+    // Whether buffer 2 is the active one of the readback buffers.
+    pub fn readback_second(self) -> bool
+        ensures { λ r. ⌜ r ≡ secondOf self 8 ⌝ }
+    {
+        let a = self.active;
+        flag_at(a, 8)
+    }
+
+    // A value written at an offset that holds it.
+    pub fn stored(self, offset: u16, value: u16) -> Registers
+        ensures { λ r. ⌜ r ≡ stored self offset value ⌝ }
+    {
+        let mut r = self;
+        if offset == 0x0a {
+            r.clock = value;
+            return r;
+        }
+        if offset == 0x14 {
+            r.id = (value % 256) as u8;
+            return r;
+        }
+        if offset < 0x20 {
+            return r;
+        }
+        if offset < 0x2c {
+            let i = (offset as usize - 0x20) / 2;
+            r.events[i] = value % 512;
+            return r;
+        }
+        if offset < 0x30 {
+            return r;
+        }
+        if offset < 0x40 {
+            let i = (offset as usize - 0x30) / 2;
+            r.switches[i] = value % 2 == 1;
+            return r;
+        }
+        if offset < 0xe0 {
+            let i = (offset as usize - 0x40) / 4;
+            let old = r.delays[i];
+            if offset % 4 == 0 {
+                r.delays[i] = value as u32 % 256 * 65536 + old % 65536;
+            } else {
+                r.delays[i] = old / 65536 % 256 * 65536 + value as u32;
+            }
+            return r;
+        }
+        r
+    }
+
+    // What a read shows at an offset.
+    pub fn loaded(self, offset: u16) -> u16
+        ensures { λ r. ⌜ r ≡ loaded self offset ⌝ }
+    {
+        if offset == 0x0a {
+            return self.clock;
+        }
+        if offset == 0x0e {
+            let a = self.active;
+            return status::word_of(a);
+        }
+        if offset == 0x10 {
+            return (self.shown / 65536 % 256) as u16;
+        }
+        if offset == 0x12 {
+            return (self.shown % 65536) as u16;
+        }
+        if offset == 0x14 {
+            return self.id as u16;
+        }
+        if offset < 0x20 {
+            return 0;
+        }
+        if offset < 0x2c {
+            let i = (offset as usize - 0x20) / 2;
+            let e = self.events;
+            return e[i];
+        }
+        if offset < 0x40 {
+            return 0;
+        }
+        if offset < 0xe0 {
+            let i = (offset as usize - 0x40) / 4;
+            let d = self.delays;
+            let delay = d[i];
+            if offset % 4 == 0 {
+                return (delay / 65536 % 256) as u16;
+            }
+            return (delay % 65536) as u16;
+        }
+        0
+    }
+
+    // Group End's share: the readback buffers switch, users with their bit set switch and the bits clear, the count is shown.
+    pub fn group_ended(self, count: u32) -> Registers
+        ensures { λ r. ⌜ r ≡ groupEnded self count ⌝ }
+    {
+        let mut a = self.active;
+        let s = self.switches;
+        let e = self.events;
+        let d = self.delays;
+        a[8] = !a[8];
+        Registers {
+            clock: self.clock,
+            active: flipped(a, s),
+            shown: count,
+            id: self.id,
+            events: e,
+            switches: [false; 8],
+            delays: d,
+        }
+    }
+}

@@ -1,0 +1,4 @@
+pub mod WordKinds
+pub mod Steps
+pub mod Moves
+pub mod Laws

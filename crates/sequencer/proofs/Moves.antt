@@ -1,0 +1,133 @@
+-- Laws of one call, for any state: which resume is taken, which word is last, and what the setpoint count takes. Assumes nothing.
+use Prim.Native.Nat.{ℕ, _+_, _-_, _≤_, min}
+use mathlib.Core.Path.{_≡_, refl, ap, _∙_}
+use mathlib.Core.Bool.{Bool, true, false, cond}
+use native.Mathlib.Omega.{arith}
+use lib.Dec.{leb, ltb, eqb}
+use borrow.Author.Tests.{eq-eqb, ne-eqb, ltb-true, ltb-false}
+use Rattle.status.specs.Bits.{bitAt}
+use Rattle.sequencer.specs.Words.{kindOf}
+use Rattle.sequencer.specs.Playing.{idled, armed, disarmed, started, loadedResume, resumedAt, resumed, answered, groupEnded, sentNext, sentAs, repeated, quiet, withLeft, withResume, advancing, repeating, resuming, tickedAt, ticked}
+use Rattle.sequencer.specs.Runs.{countAfter, asNumber}
+use Rattle.sequencer.specs.declared.Kind.the-variants as kind
+use Rattle.sequencer.specs.declared.Stage.{Stage}
+use Rattle.sequencer.specs.declared.Stage.the-variants as stage
+use Rattle.sequencer.specs.declared.Sequencer.{Sequencer}
+use Rattle.sequencer.specs.declared.Transmission.{Transmission}
+use Rattle.sequencer.specs.declared.Transmission.the-variants as transmission
+use Rattle.sequencer.specs.declared.Ticked.{Ticked}
+
+resumed-at : (g : Stage) (s : Sequencer) (k delay : ℕ) → (g ≡ stage.Paused k → ⊥) → resumedAt g s k delay ≡ s
+resumed-at stage.Idle s k delay h = refl
+resumed-at stage.Starting s k delay h = refl
+resumed-at stage.Running s k delay h = refl
+resumed-at (stage.Paused j) s k delay h =
+    ap (λ (e : Bool). cond e (loadedResume s delay) s) (ne-eqb j k (λ e. h (ap stage.Paused e)))
+resumed-at stage.Resuming s k delay h = refl
+resumed-at stage.Ended s k delay h = refl
+
+-- 5. Resume k changes nothing unless the sequencer is in pause k.
+pub resume-ignored : (s : Sequencer) (k delay : ℕ) → (s .stage ≡ stage.Paused k → ⊥) → resumed s k delay ≡ s
+unfolding resumed
+resume-ignored s k delay h = resumed-at (s .stage) s k delay h
+
+-- so not in another pause, and not while a resume is under way
+pub resume-other : (s : Sequencer) (j k delay : ℕ) → s .stage ≡ stage.Paused j → (j ≡ k → ⊥) → resumed s k delay ≡ s
+resume-other s j k delay at differs = resume-ignored s k delay (λ e. differs (cc))
+
+pub resume-meanwhile : (s : Sequencer) (k delay : ℕ) → s .stage ≡ stage.Resuming → resumed s k delay ≡ s
+resume-meanwhile s k delay at = resume-ignored s k delay (λ e. let z : _≡_ {A = ℕ} 0 1 = cc in omega arith)
+
+-- in pause k it is loaded
+pub resume-taken : (s : Sequencer) (k delay : ℕ) → s .stage ≡ stage.Paused k → resumed s k delay ≡ loadedResume s delay
+unfolding resumed
+resume-taken s k delay at = ap (λ (g : Stage). resumedAt g s k delay) at ∙ rw (eq-eqb k k refl)
+
+-- 6. D31 makes a word the last whatever its other bits, D16 to D20 too; and so does its place at the buffer's end.
+pub last-bit : (w : ℕ) (e : Bool) → bitAt w 31 ≡ true → kindOf w e ≡ kind.Last
+last-bit w true h = refl
+last-bit w false h = rw h
+
+pub last-place : (w : ℕ) → kindOf w true ≡ kind.Last
+last-place w = refl
+
+-- the count after this tick, from c
+abbrev Counts : ℕ → Ticked → Type 0
+Counts c t = t .sequencer .count ≡ countAfter (t .transmission) c
+
+counts-if : (c : ℕ) (e : Bool) (a b : Ticked) → Counts c a → Counts c b → Counts c (cond e a b)
+counts-if c true a b h k = h
+counts-if c false a b h k = k
+
+counts-sent : (s : Sequencer) (due n p : ℕ) → Counts (s .count) (sentNext s due n p)
+unfolding sentNext sentAs
+counts-sent s due n p = refl
+
+counts-advancing : (s : Sequencer) (due n p : ℕ) → Counts (s .count) (advancing s due n p)
+unfolding advancing
+counts-advancing s due n p =
+    counts-if (s .count) (leb (s .left) 1) (sentNext s due n p) (quiet (withLeft s (s .left - 1))) (counts-sent s due n p) refl
+
+counts-repeating : (s : Sequencer) (p : ℕ) → Counts (s .count) (repeating s p)
+unfolding repeating repeated
+counts-repeating s p = counts-if (s .count) (leb (s .left) 1) (repeated s p) (quiet (withLeft s (s .left - 1))) refl refl
+
+counts-resuming : (s : Sequencer) (due n p : ℕ) → Counts (s .count) (resuming s due n p)
+unfolding resuming
+counts-resuming s due n p =
+    let t = withResume s (s .resume - 1) in
+    counts-if (s .count) (leb (s .resume) 1) (sentNext s due n p) (cond (leb (s .resume) 10) (quiet t) (repeating t p))
+    (counts-sent s due n p)
+    (counts-if (s .count) (leb (s .resume) 10) (quiet t) (repeating t p) refl (counts-repeating t p))
+
+counts-at : (g : Stage) (s : Sequencer) (due n p : ℕ) → Counts (s .count) (tickedAt g s due n p)
+counts-at stage.Idle s due n p = refl
+counts-at stage.Starting s due n p = counts-advancing s due n p
+counts-at stage.Running s due n p = counts-advancing s due n p
+counts-at (stage.Paused k) s due n p = counts-repeating s p
+counts-at stage.Resuming s due n p = counts-resuming s due n p
+counts-at stage.Ended s due n p = counts-repeating s p
+
+-- 7. A tick that transmits a word counts it, and one that transmits nothing leaves the count.
+pub counts : (s : Sequencer) (due n p : ℕ)
+    → ticked s due n p .sequencer .count ≡ countAfter (ticked s due n p .transmission) (s .count)
+unfolding ticked
+counts s due n p = counts-at (s .stage) s due n p
+
+loaded-count : (s : Sequencer) (delay : ℕ) (e : Bool) → cond e (loadedResume s delay) s .count ≡ s .count
+loaded-count s delay true = refl
+loaded-count s delay false = refl
+
+resumed-count : (g : Stage) (s : Sequencer) (k delay : ℕ) → resumedAt g s k delay .count ≡ s .count
+resumed-count stage.Idle s k delay = refl
+resumed-count stage.Starting s k delay = refl
+resumed-count stage.Running s k delay = refl
+resumed-count (stage.Paused j) s k delay = loaded-count s delay (eqb j k)
+resumed-count stage.Resuming s k delay = refl
+resumed-count stage.Ended s k delay = refl
+
+-- what is no tick leaves the count
+pub count-stays : (s : Sequencer)
+    → (idled s .count ≡ s .count)
+    × (armed s .count ≡ s .count)
+    × (disarmed s .count ≡ s .count)
+    × (answered s .count ≡ s .count)
+    × ((delay : ℕ) → started s delay .count ≡ s .count)
+    × ((k delay : ℕ) → resumed s k delay .count ≡ s .count)
+unfolding idled armed disarmed answered started resumed
+count-stays s = (refl, refl, refl, refl, λ delay. refl, λ k delay. resumed-count (s .stage) s k delay)
+
+-- but Group End clears it
+pub count-cleared : (s : Sequencer) → groupEnded s .count ≡ 0
+unfolding groupEnded
+count-cleared s = refl
+
+counted-by : (c : ℕ) (e : Bool) → ltb c 0xffffff ≡ e → c ≤ 0xffffff → cond e (c + 1) c ≡ min (c + 1) 0xffffff
+counted-by c true e h = omega (arith, ltb-true c 0xffffff e)
+counted-by c false e h = omega (arith, ltb-false c 0xffffff e)
+
+-- one transmission more
+pub counted-with : (x : Transmission) (a b c : ℕ) → c ≡ min (a + b) 0xffffff
+    → countAfter x c ≡ min (a + (b + asNumber x)) 0xffffff
+counted-with transmission.Nothing a b c h = omega arith
+counted-with (transmission.Word word condition) a b c h = omega (arith, counted-by c (ltb c 0xffffff) refl (omega arith))

@@ -1,0 +1,45 @@
+-- What the definitions of status mean, bit by bit: a status word shows the latched bits at their places; Interrupt Enable drops D3 and keeps the rest. Assumes nothing.
+use Prim.Native.Nat.{ℕ, zero, suc, _+_, _*_, _/_, _%_}
+use mathlib.Core.Path.{_≡_, refl, sym, ap, _∙_}
+use mathlib.Core.List.{List, [], _∷_}
+use mathlib.Core.Bool.{Bool, true, false}
+use native.Mathlib.Omega.{arith}
+use native.Mathlib.Nat.{pow-succ', zero-div, div-div-eq-div-mul}
+use lib.ListN.{getD}
+use lib.Pow.{shr-shr}
+use borrow.Author.Tests.{eq-eqb, ne-eqb}
+use Rattle.status.specs.Bits.{bitAt, bitOf, wordOf}
+use Rattle.status.specs.Latching.{keptEnable}
+use Rattle.status.proofs.Words.{bit-small}
+
+-- the bits above the first are those of the rest
+half : (b : Bool) (w k : ℕ) → bitAt (bitOf b + 2 * w) (suc k) ≡ bitAt w k
+half b w k =
+    let e : (bitOf b + 2 * w) / 2 ≡ w = omega (arith, bit-small b) in
+    rw (pow-succ' 2 k, ← div-div-eq-div-mul, e)
+
+-- D`k` of the word shown is the k-th latched bit, and 0 past the last
+pub word-bit : (l : List Bool) (k : ℕ) → bitAt (wordOf l) k ≡ getD l k false
+unfolding wordOf
+word-bit [] k = rw zero-div
+word-bit (true ∷ l) zero = eq-eqb ((1 + 2 * wordOf l) / 1 % 2) 1 (omega arith)
+word-bit (false ∷ l) zero = ne-eqb ((0 + 2 * wordOf l) / 1 % 2) 1 (omega arith)
+word-bit (b ∷ l) (suc k) = half b (wordOf l) k ∙ word-bit l k
+
+-- Interrupt Enable drops D3
+pub enable-drops : (v : ℕ) → bitAt (keptEnable v) 3 ≡ false
+enable-drops v = ne-eqb (keptEnable v / 8 % 2) 1 (omega arith)
+
+-- D4 and above are those of a word's sixteenth
+above : (v k : ℕ) → bitAt v (suc (suc (suc (suc k)))) ≡ bitAt (v / 16) k
+above v k = let e : suc (suc (suc (suc k))) ≡ 4 + k = omega arith in rw (e, ← shr-shr)
+
+-- Interrupt Enable keeps every other bit
+pub enable-keeps : (v k : ℕ) → (k ≡ 3 → ⊥) → bitAt (keptEnable v) k ≡ bitAt v k
+enable-keeps v zero n = let e : keptEnable v / 1 % 2 ≡ v / 1 % 2 = omega arith in rw e
+enable-keeps v (suc zero) n = let e : keptEnable v / 2 % 2 ≡ v / 2 % 2 = omega arith in rw e
+enable-keeps v (suc (suc zero)) n = let e : keptEnable v / 4 % 2 ≡ v / 4 % 2 = omega arith in rw e
+enable-keeps v (suc (suc (suc zero))) n = absurd (n refl)
+enable-keeps v (suc (suc (suc (suc k)))) n =
+    let e : keptEnable v / 16 ≡ v / 16 = omega arith in
+    above (keptEnable v) k ∙ ap (λ (x : ℕ). bitAt x k) e ∙ sym (above v k)

@@ -1,0 +1,44 @@
+-- Bits of a word, and the word of a list of bits: what the proofs of the functions cite. Assumes nothing.
+use Prim.Native.Nat.{ℕ, suc, _+_, _-_, _*_, _^_, _<_, _≤_}
+use mathlib.Core.Path.{_≡_, sym, ap, _∙_}
+use mathlib.Core.List.{List, [], _∷_}
+use mathlib.Core.Bool.{Bool, true, false}
+use native.Mathlib.Omega.{arith}
+use native.Mathlib.Nat.{pow-suc, div-eq-of-lt}
+use lib.ListN.{length, getD, drop, length-drop, drop-of-length-le}
+use lib.Pow.{pow-mono}
+use lib.Seq.{drop-cons}
+use Rattle.status.specs.Bits.{bitAt, bitOf, wordOf}
+
+-- a word of sixteen bits has none at 16 and above
+pub bit-past : (word k : ℕ) → word < 65536 → 16 ≤ k → bitAt word k ≡ false
+bit-past word k h l =
+    let m : 2 ^ 16 ≤ 2 ^ k = pow-mono l in
+    rw (div-eq-of-lt {n = word} {m = 2 ^ k} (omega arith))
+
+pub bit-small : (b : Bool) → bitOf b ≤ 1
+bit-small true = omega arith
+bit-small false = omega arith
+
+word-below : (l : List Bool) → wordOf l < 2 ^ length l
+unfolding wordOf
+word-below [] = omega arith
+word-below (b ∷ l) = omega (arith, pow-suc 2 (length l), word-below l, bit-small b)
+
+-- of sixteen bits, those from k on
+module _ (a : List Bool) (l : length a ≡ 16) where
+  pub word-none : 0 ≡ wordOf (drop 16 a)
+  unfolding wordOf
+  word-none = sym (ap wordOf (drop-of-length-le a {i = 16} (omega arith)))
+
+  pub word-small : (k : ℕ) → wordOf (drop k a) < 65536
+  word-small k =
+      let s : length (drop k a) ≤ 16 = rw length-drop (omega arith) in
+      let m : 2 ^ length (drop k a) ≤ 65536 = pow-mono s in
+      omega (arith, word-below (drop k a))
+
+  pub word-back : (k : ℕ) → 0 < k → k ≤ 16 → bitOf (getD a (k - 1) false) + 2 * wordOf (drop k a) ≡ wordOf (drop (k - 1) a)
+  unfolding wordOf
+  word-back k h s =
+      let e : suc (k - 1) ≡ k = omega arith in
+      sym (ap wordOf (drop-cons a (k - 1) false (omega arith)) ∙ ap (λ (j : ℕ). bitOf (getD a (k - 1) false) + 2 * wordOf (drop j a)) e)

@@ -1,0 +1,18 @@
+-- Bits of words. "Dn is bit n, D0 lowest."
+use Prim.Native.Nat.{ℕ, _+_, _*_, _/_, _%_, _^_}
+use mathlib.Core.Bool.{Bool, true, false}
+use mathlib.Core.List.{List, [], _∷_}
+use lib.Dec.{eqb}
+
+-- D`n` of a word
+abbrev pub bitAt : ℕ → ℕ → Bool
+bitAt word n = eqb (word / 2 ^ n % 2) 1
+
+abbrev pub bitOf : Bool → ℕ
+bitOf true = 1
+bitOf false = 0
+
+-- the word whose bits, D0 first, are listed
+unfoldable pub wordOf : List Bool → ℕ
+wordOf [] = 0
+wordOf (b ∷ l) = bitOf b + 2 * wordOf l

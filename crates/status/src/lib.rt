@@ -1,0 +1,155 @@
+// A channel's status: what is enabled, and two copies of the latched conditions, each with the channel's bit in the Main status of that copy.
+ghost use mathlib.Core.Path.{_≡_};
+ghost use Prim.Native.Nat.{_+_, _*_, _<_};
+ghost use Rattle.status.specs.Bits.{bitAt, bitOf, wordOf};
+ghost use Rattle.status.specs.Latching.{none, latchedIn, clearedIn, takenIn, opened, latched, enabled, reset};
+
+// Bits of the channel status.
+pub const RUN: u8 = 15;
+
+pub const END_OF_FUNCTION: u8 = 14;
+
+pub const GROUP_END: u8 = 13;
+
+pub const EARLY_END: u8 = 12;
+
+pub const CRC_ERROR: u8 = 2;
+
+// One copy of the status (Interrupt or Polling): the latched conditions, and the channel's bit in Main's status of the same name.
+pub struct Latches {
+    pub bits: [bool; 16],
+    pub main: bool,
+}
+
+pub struct Status {
+    pub enable: u16,
+    pub interrupt: Latches,
+    pub polling: Latches,
+}
+
+// Whether a bit of a word is set.
+pub fn is_set(word: u16, bit: u8) -> bool
+    ensures { λ r. ⌜ r ≡ bitAt word bit ⌝ }
+{
+    if bit < 16 {
+        return (word >> bit) % 2 == 1;
+    }
+    false
+}
+
+// A word doubled, with a bit at its end.
+fn pushed(word: u32, bit: bool) -> u32
+    requires { ⌜ word < 65536 ⌝ }
+    ensures { λ r. ⌜ r ≡ bitOf bit + 2 * word ⌝ }
+{
+    if bit {
+        return 1 + 2 * word;
+    }
+    2 * word
+}
+
+// The word of sixteen bits, the first of which is D0.
+pub fn word_of(bits: [bool; 16]) -> u16
+    ensures { λ r. ⌜ r ≡ wordOf bits ⌝ }
+{
+    let mut k: usize = 16;
+    let mut w: u32 = 0;
+    while 0 < k {
+        k = k - 1;
+        w = pushed(w, bits[k]);
+    }
+    w as u16
+}
+
+impl Latches {
+    // Nothing latched.
+    pub fn none() -> Latches
+        ensures { λ r. ⌜ r ≡ none ⌝ }
+    {
+        Latches {
+            bits: [false; 16],
+            main: false,
+        }
+    }
+
+    // A condition happens: its bit, and the Main bit if it is enabled.
+    pub fn latched(self, bit: u8, on: bool) -> Latches
+        ensures { λ r. ⌜ r ≡ latchedIn self bit on ⌝ }
+    {
+        let mut l = self;
+        let i = bit as usize;
+        if i < 16 {
+            l.bits[i] = true;
+        }
+        if on {
+            l.main = true;
+        }
+        l
+    }
+
+    // The status read: its bits clear, the Main bit stays.
+    pub fn cleared(self) -> Latches
+        ensures { λ r. ⌜ r ≡ clearedIn self ⌝ }
+    {
+        let mut l = self;
+        l.bits = [false; 16];
+        l
+    }
+
+    // Main's status read: the Main bit clears, the others stay.
+    pub fn taken(self) -> Latches
+        ensures { λ r. ⌜ r ≡ takenIn self ⌝ }
+    {
+        let mut l = self;
+        l.main = false;
+        l
+    }
+}
+
+impl Status {
+    pub fn opened() -> Status
+        ensures { λ r. ⌜ r ≡ opened ⌝ }
+    {
+        Status {
+            enable: 0,
+            interrupt: Latches::none(),
+            polling: Latches::none(),
+        }
+    }
+
+    // A condition happens: it latches in both copies, and sets both Main bits where it is enabled.
+    pub fn latched(self, bit: u8) -> Status
+        ensures { λ r. ⌜ r ≡ latched self bit ⌝ }
+    {
+        let on = is_set(self.enable, bit);
+        let i = self.interrupt;
+        let p = self.polling;
+        Status {
+            enable: self.enable,
+            interrupt: i.latched(bit, on),
+            polling: p.latched(bit, on),
+        }
+    }
+
+    // Interrupt Enable written: D3 is dropped.
+    pub fn enabled(self, value: u16) -> Status
+        ensures { λ r. ⌜ r ≡ enabled self value ⌝ }
+    {
+        let mut s = self;
+        s.enable = value / 16 * 16 + value % 8;
+        s
+    }
+
+    // As opened, with the Main bits as they are.
+    pub fn reset(self) -> Status
+        ensures { λ r. ⌜ r ≡ reset self ⌝ }
+    {
+        let i = self.interrupt;
+        let p = self.polling;
+        Status {
+            enable: 0,
+            interrupt: i.cleared(),
+            polling: p.cleared(),
+        }
+    }
+}
