@@ -9,14 +9,17 @@ use Rattle.channel.specs.declared.Shown.the-variants as shown
 use Rattle.channel.specs.declared.PartLength.{PartLength}
 use Rattle.channel.specs.declared.PartLength.the-variants as long
 
+-- the answer of a call that has nothing to tell but that it was done
 abbrev pub outcomeOf : Outcome → Answer
 outcomeOf outcome.Done = ans.done
 outcomeOf (outcome.Refused k) = ans.refused (numberOf k)
 
+-- the answer of a register read
 abbrev pub shownOf : Shown → Answer
 shownOf (shown.Value v) = ans.value v
 shownOf (shown.Refused k) = ans.refused (numberOf k)
 
+-- the answer of the call beside retired readbacks
 abbrev pub lengthOf : PartLength → Answer
-lengthOf (long.Words k) = ans.length k
+lengthOf (long.Words k) = ans.partLength k
 lengthOf (long.Refused k) = ans.refused (numberOf k)

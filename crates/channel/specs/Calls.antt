@@ -1,6 +1,6 @@
 -- Document 01, 'Calls' and 'Register map': the calls that name a channel, over its own part of the lent memory.
 -- Each refusal is decided by one definition (0: none), in the order of document 01's table; what a call does goes by cases on it.
-use Prim.Native.Nat.{ℕ, _+_, _-_, _*_}
+use Prim.Native.Nat.{ℕ, _-_}
 use mathlib.Core.Bool.{Bool, true, false, cond, _&&_, _||_}
 use mathlib.Core.List.{List, []}
 use lib.ListN.{length, set}
@@ -43,6 +43,7 @@ registerEffect c offset value =
     (cond (eqb offset 0x06) (cond (bitAt value 0) (reset c) c)
     (cond (eqb offset 0x08) (commanded c value) (withRegisters c (stored (c .registers) offset value))))
 
+-- the call: the channel after it, its answer, and (below) its readback words; a refused one changes nothing
 unfoldable pub writtenOf : Channel → ℕ → ℕ → Channel
 writtenOf c offset value = cond (eqb (registerRefusal offset value) 0) (registerEffect c offset value) c
 
@@ -71,12 +72,14 @@ readEffect c offset =
     cond (eqb offset 0x02) (withStatus c (withInterrupt (c .status) (clearedIn (c .status .interrupt))))
     (cond (eqb offset 0x04) (withStatus c (withPolling (c .status) (clearedIn (c .status .polling)))) c)
 
+-- what a read shows, before it clears anything
 unfoldable pub readValue : Channel → ℕ → ℕ
 readValue c offset =
     cond (eqb offset 0x00) (c .status .enable)
     (cond (eqb offset 0x02) (wordOf (c .status .interrupt .bits))
     (cond (eqb offset 0x04) (wordOf (c .status .polling .bits)) (loaded (c .registers) offset)))
 
+-- the call: the channel after it, and its answer
 unfoldable pub readOf : Channel → ℕ → Channel
 readOf c offset = cond (eqb (readRefusal (channelAccess offset)) 0) (readEffect c offset) c
 
@@ -101,6 +104,7 @@ setpointRefusal c n user buffer index =
     (cond (leb n index) (numberOf refusal.OutOfRange)
     (cond (c .sequencer .armed && eqb buffer (activeBuffer (c .registers) user)) (numberOf refusal.ActiveBuffer) 0)))
 
+-- the call: its answer, and the setpoint words after it; the channel stays as it is
 unfoldable pub setpointAnswer : Channel → ℕ → ℕ → ℕ → ℕ → Answer
 setpointAnswer c n user buffer index = unless (setpointRefusal c n user buffer index) ans.done
 
@@ -110,9 +114,11 @@ setpointWords c s n user buffer index word =
 
 -- ---- Arm, disarm
 
+-- "Arming an armed channel changes nothing."
 unfoldable pub armedOf : Channel → Channel
 armedOf c = withSequencer c (seq.armed (c .sequencer))
 
+-- "Disarm idles, without EE."
 unfoldable pub disarmedOf : Channel → Channel
 disarmedOf c = withSequencer c (seq.disarmed (c .sequencer))
 
@@ -131,11 +137,7 @@ retiredWords c m one two =
 
 -- what document 01 calls its twin: "answers the number or the part's length"
 unfoldable pub retiredLength : Channel → ℕ → List ℕ → List ℕ → Answer
-retiredLength c m one two = unless (retiredRefusal m (length one) (length two)) (ans.length (length (retiredWords c m one two)))
-
--- the answer of the call itself: refused, or the part's words
-unfoldable pub retiredAnswer : Channel → ℕ → List ℕ → List ℕ → Answer
-retiredAnswer c m one two = unless (retiredRefusal m (length one) (length two)) (ans.part (retiredWords c m one two))
+retiredLength c m one two = unless (retiredRefusal m (length one) (length two)) (ans.partLength (length (retiredWords c m one two)))
 
 -- ---- Main's statuses
 
@@ -143,6 +145,7 @@ retiredAnswer c m one two = unless (retiredRefusal m (length one) (length two)) 
 abbrev pub mainBit : Channel → Bool → Bool
 mainBit c polling = cond polling (c .status .polling .main) (c .status .interrupt .main)
 
+-- the channel after its bit is read there
 unfoldable pub mainTaken : Channel → Bool → Channel
 mainTaken c polling =
     cond polling (withStatus c (withPolling (c .status) (takenIn (c .status .polling))))

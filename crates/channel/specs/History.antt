@@ -11,6 +11,7 @@ use Rattle.life.specs.Answers as ans
 use Rattle.channel.specs.Alone.{ChannelCall, Alone, refusalOf, move, says}
 use Rattle.channel.specs.Alone as call
 
+-- one call: the state before it, the call, and what it answered
 pub record Entry : Type 0 where
   pub before : Alone
   pub call : ChannelCall
@@ -25,6 +26,7 @@ history o (k ∷ ks) = entry o k ∷ history (move o k) ks
 
 -- ---- What an entry shows
 
+-- a tick that answered a frame
 abbrev pub isFrame : Answer → Bool
 isFrame (ans.refused k) = false
 isFrame ans.done = false
@@ -36,7 +38,7 @@ isFrame ans.kept = false
 isFrame ans.lost = false
 isFrame ans.unsolicited = false
 isFrame (ans.part l) = false
-isFrame (ans.length k) = false
+isFrame (ans.partLength k) = false
 
 -- a reply that was answered kept or lost
 abbrev pub isReceived : Answer → Bool
@@ -50,7 +52,7 @@ isReceived ans.kept = true
 isReceived ans.lost = true
 isReceived ans.unsolicited = false
 isReceived (ans.part l) = false
-isReceived (ans.length k) = false
+isReceived (ans.partLength k) = false
 
 -- whether a call, not refused, is a Group End: the Group End event's code, or Commands with D2
 abbrev pub asksGroupEnd : Alone → ChannelCall → Bool
@@ -87,9 +89,11 @@ asksReset (call.readMain offset) = false
 abbrev pub isRefused : Entry → Bool
 isRefused e = cond (eqb (refusalOf (e .before) (e .call)) 0) false true
 
+-- a Group End that took place
 abbrev pub endsGroup : Entry → Bool
 endsGroup e = cond (isRefused e) false (asksGroupEnd (e .before) (e .call))
 
+-- a reset that took place
 abbrev pub resets : Entry → Bool
 resets e = cond (isRefused e) false (asksReset (e .call))
 

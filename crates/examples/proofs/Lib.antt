@@ -1,1 +1,3 @@
+pub mod Resumes
 pub mod Starred
+pub mod Reached

@@ -27,14 +27,16 @@ pub data Answer : Type 0 where
   -- the words of a part, in order
   part : List ℕ → Answer
   -- the length of a part
-  length : ℕ → Answer
+  partLength : ℕ → Answer
 
+-- the answer of a reply
 abbrev pub receiptOf : Receipt → Answer
 receiptOf receipt.Kept = kept
 receiptOf receipt.Lost = lost
 receiptOf receipt.Unsolicited = unsolicited
 receiptOf (receipt.Refused k) = refused (numberOf k)
 
+-- the answer of a tick
 abbrev pub lineOf : Line → Answer
 lineOf line.Silent = none
 lineOf (line.Frame f) = frame f

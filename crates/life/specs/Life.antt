@@ -64,15 +64,18 @@ groupWords c s m = endWords (c .readbacks) s (secondOf (c .registers) readbackPl
 
 -- ---- "One event or command does Group End, Start, Resume in that order."
 
+-- Group End, where it is asked for
 unfoldable pub endedIf : Bool → Channel → Channel
 endedIf on c = cond on (groupEnded c) c
 
 unfoldable pub endedWords : Bool → Channel → List ℕ → ℕ → List ℕ
 endedWords on c s m = cond on (groupWords c s m) s
 
+-- Start, where it is asked for
 unfoldable pub startedIf : Bool → Channel → ℕ → Channel
 startedIf on c delay = cond on (started c delay) c
 
+-- Resume of a pause (1–4, and 0 for the VME pause), where it is asked for
 unfoldable pub resumedIf : Bool → Channel → ℕ → ℕ → Channel
 resumedIf on c pause delay = cond on (withSequencer c (seq.resumed (c .sequencer) pause delay)) c
 
@@ -95,6 +98,7 @@ eventOf c user code =
     (delayOf (c .registers) 0 user))
     user code
 
+-- its readback words after an event: Group End may write an end word
 unfoldable pub eventWords : Channel → List ℕ → ℕ → ℕ → List ℕ
 eventWords c s m code = endedWords (triggersOf (c .registers) groupEndEvent code) c s m
 
@@ -102,6 +106,7 @@ eventWords c s m code = endedWords (triggersOf (c .registers) groupEndEvent code
 unfoldable pub commanded : Channel → ℕ → Channel
 commanded c value = resumedIf (bitAt value 1) (startedIf (bitAt value 0) (endedIf (bitAt value 2) c) 0) 0 0
 
+-- its readback words after a write to Commands
 unfoldable pub commandWords : Channel → List ℕ → ℕ → ℕ → List ℕ
 commandWords c s m value = endedWords (bitAt value 2) c s m
 
@@ -111,7 +116,7 @@ commandWords c s m value = endedWords (bitAt value 2) c s m
 abbrev pub setpointPlace : ℕ → ℕ → ℕ → ℕ → ℕ
 setpointPlace user buffer n index = (user * 2 + buffer) * n + index
 
--- the word at the index due, of the current user's active buffer
+-- the word at the index due, of the current user's active buffer (0 past the words that are lent)
 unfoldable pub dueOf : Channel → List ℕ → ℕ → ℕ → ℕ
 dueOf c s n user = getD s (setpointPlace (user - 1) (bitOf (secondOf (c .registers) (user - 1))) n (c .sequencer .index)) 0
 
@@ -119,7 +124,7 @@ dueOf c s n user = getD s (setpointPlace (user - 1) (bitOf (secondOf (c .registe
 abbrev pub playedOf : Channel → List ℕ → ℕ → ℕ → t.Ticked
 playedOf c s n user = ticked (c .sequencer) (dueOf c s n user) n (periodOf (c .registers .clock))
 
--- the status with what a send latches
+-- the status with what a send latches; 0 is no condition
 abbrev pub sendStatus : Status → Transmission → Status
 sendStatus s transmission.Nothing = s
 sendStatus s (transmission.Word word k) = cond (eqb k 0) s (latched s k)
@@ -129,10 +134,12 @@ abbrev pub sendFrame : Registers → Transmission → Answer
 sendFrame r transmission.Nothing = ans.none
 sendFrame r (transmission.Word word k) = ans.frame (encoded (r .id) (word % 65536) 0)
 
+-- "tick (1 µs)": the channel after it
 unfoldable pub tickOf : Channel → List ℕ → ℕ → ℕ → Channel
 tickOf c s n user =
     withSequencer (withStatus c (sendStatus (c .status) (playedOf c s n user .transmission))) (playedOf c s n user .sequencer)
 
+-- "A tick answers with each channel's frame or none."
 unfoldable pub tickAnswer : Channel → List ℕ → ℕ → ℕ → Answer
 tickAnswer c s n user = sendFrame (c .registers) (playedOf c s n user .transmission)
 
@@ -146,11 +153,13 @@ fateOf c m = dispositionOf (isIdle (c .sequencer .stage)) (c .sequencer .last) (
 abbrev pub crcStatus : Status → Bool → Status
 crcStatus s right = cond right s (latched s crcError)
 
+-- what a well-framed reply is answered
 abbrev pub fateAnswer : Disposition → Answer
 fateAnswer disposition.Unsolicited = ans.unsolicited
 fateAnswer disposition.Lost = ans.lost
 fateAnswer disposition.Kept = ans.kept
 
+-- the channel after it: a lost reply "counts among the six" too, an unasked one changes nothing
 abbrev pub fateChannel : Disposition → Channel → ℕ → Bool → Channel
 fateChannel disposition.Unsolicited c m right = c
 fateChannel disposition.Lost c m right =
@@ -163,11 +172,13 @@ fateChannel disposition.Kept c m right =
       readbacks = keptIn (c .readbacks) m;
     }
 
+-- the readback words after it: only a kept reply is stored
 abbrev pub fateWords : Disposition → Channel → List ℕ → ℕ → ℕ → List ℕ
 fateWords disposition.Unsolicited c s m word = s
 fateWords disposition.Lost c s m word = s
 fateWords disposition.Kept c s m word = keptWords (c .readbacks) s (secondOf (c .registers) readbackPlace) m word
 
+-- a reply by what its number is read as: refused 7, which changes nothing, or received with its fields
 abbrev pub replyAnswerAs : Reading → Channel → ℕ → Answer
 replyAnswerAs (refused k) c m = ans.refused k
 replyAnswerAs (fields id word aux crc) c m = fateAnswer (fateOf c m)
@@ -181,6 +192,7 @@ replyWordsAs (refused k) c s m user = s
 replyWordsAs (fields id word aux crc) c s m user =
     fateWords (fateOf c m) c s m (storedWord (c .sequencer .last) user (not (crcRight id word aux crc)) id word)
 
+-- a reply: what it is answered, the channel after it, and its readback words
 unfoldable pub replyAnswer : Channel → ℕ → ℕ → Answer
 replyAnswer c m f = replyAnswerAs (read f) c m
 

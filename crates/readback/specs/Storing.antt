@@ -15,12 +15,12 @@ use Rattle.readback.specs.declared.Disposition.the-variants as dispositi
 abbrev pub opened : Readbacks
 opened = record { stored = 0; retired = 0 }
 
--- how many readbacks a buffer of depth M takes
+-- how many readbacks a buffer takes: "Depth M (readbacks per buffer)"
 abbrev pub capacity : ℕ → ℕ
 capacity m = m
 
 -- "Kept word: D31 first send of the function's first word, D30 paused, D29 last, D28–D26 user less 1, D25 0, D24 CRC wrong, D23–D16 ID,
--- D15–D0 data; D31–D26 describe the last send."
+-- D15–D0 data; D31–D26 describe the last send." `user` is the current user: it is that of the last send since idle, since a change of user idles.
 unfoldable pub storedWord : LastSend → ℕ → Bool → ℕ → ℕ → ℕ
 storedWord l user wrong id word =
     bitOf (l .first) * 0x80000000 + bitOf (l .paused) * 0x40000000 + bitOf (l .last) * 0x20000000
@@ -39,10 +39,11 @@ unfoldable pub dispositionOf : Bool → LastSend → ℕ → ℕ → Disposition
 dispositionOf idle l stored m =
     cond (isDue idle l) (cond (ltb stored (capacity m)) disposition.Kept disposition.Lost) disposition.Unsolicited
 
--- a word goes after the stored ones of the active buffer
+-- a kept word goes after the stored ones of the active buffer, and is counted; a full buffer takes none
 abbrev pub keptIn : Readbacks → ℕ → Readbacks
 keptIn r m = record { stored = cond (ltb (r .stored) (capacity m)) (r .stored + 1) (r .stored); retired = r .retired }
 
+-- the channel's 2 × M words after that; `second` says that buffer 2 is the active one
 abbrev pub keptWords : Readbacks → List ℕ → Bool → ℕ → ℕ → List ℕ
 keptWords r s second m word = cond (ltb (r .stored) (capacity m)) (set s (placeOf second m (r .stored)) word) s
 

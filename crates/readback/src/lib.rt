@@ -127,9 +127,9 @@ impl Readbacks {
     pub fn mark_end(self, words: &mut [u32], second: bool, m: u32)
         ensures { λ _. ⌜ now (words .exit) ≡ endWords self (now (words .entry)) second m ⌝ }
     {
-        let stored = self.stored;
-        if stored < m {
-            store(words, place(second, m, stored), 0x200_0000);
+        let at = self.stored;
+        if at < m {
+            store(words, place(second, m, at), 0x200_0000);
         }
     }
 

@@ -21,7 +21,7 @@ opened =
       delays = replicate 40 0;
     }
 
--- "Clock codes (bench): 0, 1, 2, 3 give a period of 10,000, 1,000, 100, 10 µs."
+-- "Clock codes (bench): 0, 1, 2, 3 give a period of 10,000, 1,000, 100, 10 µs." A code above 3 is refused 5 and never held.
 abbrev pub periodOf : ℕ → ℕ
 periodOf clock = cond (eqb clock 0) 10000 (cond (eqb clock 1) 1000 (cond (eqb clock 2) 100 10))
 

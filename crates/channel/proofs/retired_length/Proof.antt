@@ -1,27 +1,21 @@
+-- `channel::retired_length` meets its contract: refused where a length is not M, and else the length of the part. Assumes nothing.
 use Rattle.channel.specs.Calls.{retiredLength}
 use borrow.Author.Tests.{eq-eqb, ne-eqb}
 use borrow.Author.Needs.{needs}
 use Rattle.channel.proofs.retired_length.Statement.{statement}
 use Rattle.channel.proofs.retired_length.Tie as tie
-use Rattle.channel.proofs.retired_length.Reads as reads
-use Rattle.channel.proofs.retired_length.Lts as lts
-use Rattle.channel.proofs.retired.Reads as retired-reads
 
--- src/lib.rt:270:9
 returns : tie.Need-returns
 unfolding retiredLength
 returns c = simp (ne-eqb _ _ (c .if1 .taken))
 
--- src/lib.rt:273:9
 returns-2 : tie.Need-returns-2
 unfolding retiredLength
 returns-2 c = simp (eq-eqb _ _ (c .before .if1 .left), ne-eqb _ _ (c .if2 .taken))
 
--- src/lib.rt:275:9
 retired-requires : tie.Need-retired-requires
 retired-requires c κs = search needs
 
--- src/lib.rt:266:1
 returns-3 : tie.Need-returns-3
 unfolding retiredLength
 returns-3 c = simp (eq-eqb _ _ (c .before .before .if1 .left), eq-eqb _ _ (c .before .if2 .left), c .retired .ensures)

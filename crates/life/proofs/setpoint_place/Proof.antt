@@ -1,41 +1,44 @@
+-- `life::setpoint_place` meets its contract: the place by user, buffer and index, which fits 64 bits for any of them. Assumes nothing.
 use native.Mathlib.Omega.{arith}
 use native.Mathlib.Nat.{mul-le-mul}
-use Prim.Native.Nat.{_+_, _*_}
+use Prim.Native.Nat.{ℕ, _+_, _*_, _≤_}
 use borrow.Author.Needs.{needs}
 use Rattle.life.proofs.setpoint_place.Statement.{statement}
 use Rattle.life.proofs.setpoint_place.Tie as tie
-use Rattle.life.proofs.setpoint_place.Reads as reads
-use Rattle.life.proofs.setpoint_place.Lts as lts
 
--- src/lib.rt:56:13
+-- what 511 buffers of 2^32 - 1 words come to
+within : (u n : ℕ) → u ≤ 511 → n ≤ 4294967295 → u * n ≤ 2194728287745
+within u n a b = mul-le-mul {n₁ = u} {m₁ = n} {n₂ = 511} {m₂ = 4294967295} a b
+
 mul-u : tie.Need-mul-u
 mul-u c = search needs
 
--- src/lib.rt:58:17
 add-result : tie.Need-add-result
 add-result c = search needs
 
--- src/lib.rt:58:16
 mul-result : tie.Need-mul-result
-mul-result c = omega (arith, mul-le-mul {n₁ = c .before .args .user * 2 + 1} {m₁ = c .before .args .n} {n₂ = 511} {m₂ = 4294967295} (omega arith) (omega arith))
+mul-result c =
+    let a = c .before .args in
+    omega (arith, within (a .user * 2 + 1) (a .n) (omega arith) (omega arith))
 
--- src/lib.rt:58:16
 add-result-2 : tie.Need-add-result-2
-add-result-2 c = omega (arith, mul-le-mul {n₁ = c .before .args .user * 2 + 1} {m₁ = c .before .args .n} {n₂ = 511} {m₂ = 4294967295} (omega arith) (omega arith))
+add-result-2 c =
+    let a = c .before .args in
+    omega (arith, within (a .user * 2 + 1) (a .n) (omega arith) (omega arith))
 
--- src/lib.rt:58:9
 returns : tie.Need-returns
 returns c = simp (c .if1 .taken)
 
--- src/lib.rt:60:5
 mul-result-2 : tie.Need-mul-result-2
-mul-result-2 c = omega (arith, mul-le-mul {n₁ = c .before .args .user * 2} {m₁ = c .before .args .n} {n₂ = 511} {m₂ = 4294967295} (omega arith) (omega arith))
+mul-result-2 c =
+    let a = c .before .args in
+    omega (arith, within (a .user * 2) (a .n) (omega arith) (omega arith))
 
--- src/lib.rt:60:5
 add-result-3 : tie.Need-add-result-3
-add-result-3 c = omega (arith, mul-le-mul {n₁ = c .before .args .user * 2} {m₁ = c .before .args .n} {n₂ = 511} {m₂ = 4294967295} (omega arith) (omega arith))
+add-result-3 c =
+    let a = c .before .args in
+    omega (arith, within (a .user * 2) (a .n) (omega arith) (omega arith))
 
--- src/lib.rt:53:1
 returns-2 : tie.Need-returns-2
 returns-2 c = simp (c .if1 .left) (omega arith)
 

@@ -1,25 +1,20 @@
+-- `life::word_at` meets its contract: the word, and 0 past the end. Assumes nothing.
 use denote.Ref.{now}
 use lib.ListN.{List·getD-eq-default}
 use mathlib.Core.Path.{sym}
 use borrow.Author.Needs.{needs}
 use Rattle.life.proofs.word_at.Statement.{statement}
 use Rattle.life.proofs.word_at.Tie as tie
-use Rattle.life.proofs.word_at.Reads as reads
-use Rattle.life.proofs.word_at.Lts as lts
 
--- src/lib.rt:67:27
 mul-result : tie.Need-mul-result
 mul-result c = search needs
 
--- src/lib.rt:67:27
 shared-slice-read-result : tie.Need-shared-slice-read-result
 shared-slice-read-result c = search needs
 
--- src/lib.rt:64:1
 returns : tie.Need-returns
 returns c = search needs
 
--- src/lib.rt:64:1
 returns-2 : tie.Need-returns-2
 returns-2 c = sym (List·getD-eq-default (now (c .before .args .words)) 0 (c .if1 .left))
 

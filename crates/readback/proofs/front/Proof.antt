@@ -1,21 +1,17 @@
+-- `readback::front` meets its contract: the first words by count, and all of them where there are no more. Assumes nothing.
 use mathlib.Core.Path.{sym}
 use lib.Seq.{take-all, length-take-le}
 use native.Mathlib.Nat.{le-of-lt}
 use borrow.Author.Needs.{needs}
 use Rattle.readback.proofs.front.Statement.{statement}
 use Rattle.readback.proofs.front.Tie as tie
-use Rattle.readback.proofs.front.Reads as reads
-use Rattle.readback.proofs.front.Lts as lts
 
--- src/lib.rt:88:9
 slice-aggregate-result : tie.Need-slice-aggregate-result
 slice-aggregate-result c = sym (length-take-le _ _ (le-of-lt (c .before .if1 .taken)))
 
--- src/lib.rt:88:9
 returns : tie.Need-returns
 returns c = search needs
 
--- src/lib.rt:83:1
 returns-2 : tie.Need-returns-2
 returns-2 c = sym (take-all _ _ (c .if1 .left))
 

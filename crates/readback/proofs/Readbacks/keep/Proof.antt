@@ -1,35 +1,29 @@
-use borrow.Author.Tests.{lt-ltb, le-ltb, le-leb, lt-leb, eq-eqb, ne-eqb}
+-- `readback::Readbacks::keep` meets its contract: where there is space the word goes after the stored ones, and is counted. Assumes nothing.
+use borrow.Author.Tests.{lt-ltb, le-ltb}
 use borrow.Author.Needs.{needs}
 use Rattle.readback.proofs.Readbacks.keep.Statement.{statement}
 use Rattle.readback.proofs.Readbacks.keep.Tie as tie
-use Rattle.readback.proofs.Readbacks.keep.Reads as reads
-use Rattle.readback.proofs.Readbacks.keep.Lts as lts
-use Rattle.readback.proofs.place.Reads as place-reads
-use Rattle.readback.proofs.store.Reads as store-reads
 
--- src/lib.rt:120:26
 place-requires : tie.Need-place-requires
 place-requires c κs = search needs
 
--- src/lib.rt:120:13
 store-requires : tie.Need-store-requires
 store-requires c κs = search needs
 
--- src/lib.rt:121:24
 add-r : tie.Need-add-r
 add-r c = search needs
 
--- src/lib.rt:114:5
 same-length : tie.Need-same-length
 same-length c = search needs
 
--- src/lib.rt:114:5
 returns : tie.Need-returns
-returns c = (simp (lt-ltb _ _ (c .before .before .before .before .before .if1 .taken)), simp (c .before .before .store .ensures, c .before .before .before .place .ensures, lt-ltb _ _ (c .before .before .before .before .before .if1 .taken)))
+returns c =
+    let s = c .before .before in
+    let space = lt-ltb _ _ (s .before .before .before .if1 .taken) in
+    (simp (space), simp (s .store .ensures, s .before .place .ensures, space))
 
--- src/lib.rt:114:5
 returns-2 : tie.Need-returns-2
-returns-2 c = (simp (le-ltb _ _ (c .if1 .left)), simp (le-ltb _ _ (c .if1 .left)))
+returns-2 c = let full = le-ltb _ _ (c .if1 .left) in (simp (full), simp (full))
 
 pub keep-spec : {M : Type 1} → statement M
 keep-spec = tie.close (tie.spec place-requires store-requires add-r same-length returns returns-2)

@@ -1,0 +1,71 @@
+-- `board_registers::write_register` meets its contract: by the tests on the way and the contracts of what it calls. Assumes nothing.
+use Rattle.board_registers.proofs.write_register.Statement.{statement}
+use Rattle.board.specs.Calls.{writeBoard, writeAnswer, writeWords}
+use Rattle.register_map.proofs.Laws.{named-channel}
+use Rattle.register_map.specs.Addresses.{namedOf}
+use borrow.Author.Needs.{needs}
+use borrow.Author.Tests.{eq-eqb, ne-eqb}
+use mathlib.Core.Path.{sym, ap, _∙_}
+use native.Mathlib.Omega.{arith}
+use Rattle.board_registers.proofs.write_register.Tie as tie
+
+cast-if1 : tie.Need-cast-if1
+cast-if1 c = search needs
+
+mul-if1 : tie.Need-mul-if1
+mul-if1 c = search needs
+
+returns : tie.Need-returns
+unfolding writeBoard writeAnswer writeWords
+returns c = (simp (ne-eqb _ _ (c .if1 .taken)), simp (ne-eqb _ _ (c .if1 .taken)), simp (ne-eqb _ _ (c .if1 .taken)))
+
+decode-address-requires : tie.Need-decode-address-requires
+decode-address-requires c κs = search needs
+
+enum-known-region : tie.Need-enum-known-region
+enum-known-region c = search needs
+
+write-main-requires : tie.Need-write-main-requires
+write-main-requires c κs = search needs
+
+enum-known-region-2 : tie.Need-enum-known-region-2
+enum-known-region-2 c = search needs
+
+write-channel-requires : tie.Need-write-channel-requires
+write-channel-requires c κs = let n = named-channel (c .before .before .before .before .before .before .before .before .args .address) (sym (c .before .before .before .before .decode-address .ensures) ∙ ap namedOf (c .before .before .region2 .given .1)) in (n .0, n .1, omega arith)
+
+enum-told : tie.Need-enum-told
+enum-told c = search needs
+
+returns-2 : tie.Need-returns-2
+unfolding writeBoard writeAnswer writeWords
+returns-2 c = rw (← c .before .before .before .before .decode-address .ensures) (simp (eq-eqb _ _ (c .before .before .before .before .before .if1 .left), c .before .before .region .given .1, c .write-main .ensures .0), simp (eq-eqb _ _ (c .before .before .before .before .before .if1 .left), c .before .before .region .given .1, c .write-main .ensures .1), simp (eq-eqb _ _ (c .before .before .before .before .before .if1 .left), c .before .before .region .given .1))
+
+same-length : tie.Need-same-length
+same-length c = search needs
+
+returns-3 : tie.Need-returns-3
+unfolding writeBoard writeAnswer writeWords
+returns-3 c = rw (← c .before .before .before .before .before .before .before .decode-address .ensures) (simp (eq-eqb _ _ (c .before .before .before .before .before .before .before .before .if1 .left), c .before .before .before .before .before .region2 .given .1, c .before .before .write-channel .ensures .0), simp (eq-eqb _ _ (c .before .before .before .before .before .before .before .before .if1 .left), c .before .before .before .before .before .region2 .given .1, c .before .before .write-channel .ensures .1), simp (eq-eqb _ _ (c .before .before .before .before .before .before .before .before .if1 .left), c .before .before .before .before .before .region2 .given .1, c .before .before .write-channel .ensures .2))
+
+returns-4 : tie.Need-returns-4
+unfolding writeBoard writeAnswer writeWords
+returns-4 c = rw (← c .before .before .decode-address .ensures) (simp (eq-eqb _ _ (c .before .before .before .if1 .left), c .enum-told .given .1), simp (eq-eqb _ _ (c .before .before .before .if1 .left), c .enum-told .given .1), simp (eq-eqb _ _ (c .before .before .before .if1 .left), c .enum-told .given .1))
+
+pub write-register-spec : {M : Type 1} → statement M
+write-register-spec =
+    tie.close
+    (tie.spec
+    cast-if1
+    mul-if1
+    returns
+    decode-address-requires
+    enum-known-region
+    write-main-requires
+    enum-known-region-2
+    write-channel-requires
+    enum-told
+    returns-2
+    same-length
+    returns-3
+    returns-4)

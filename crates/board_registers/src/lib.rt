@@ -1,0 +1,130 @@
+// Register write and read on the board: the address names a channel, Main, or nothing. A crate of its own to keep each check short.
+use board::Written;
+use board_state::Board;
+use channel::Outcome;
+use channel::Shown;
+use refusal::Refusal;
+use register_map::Region;
+use register_map::Verdict;
+ghost use mathlib.Core.Path.{_≡_};
+ghost use Prim.Native.Nat.{_+_, _-_, _*_, _<_, _≤_};
+ghost use lib.ListN.{length};
+ghost use Rattle.channel.specs.Answers.{outcomeOf, shownOf};
+ghost use Rattle.channel.specs.Calls.{writtenOf, writtenAnswer, writtenWords};
+ghost use Rattle.register_map.specs.Addresses.{main, channel};
+ghost use Rattle.board_state.specs.State.{chan, put};
+ghost use Rattle.board.specs.Parts.{own, withOwn};
+ghost use Rattle.board.specs.Calls.{readbackSize, writeBoardAt, writeAnswerAt, writeBoard, writeAnswer, writeWords, readBoardAt, readAnswerAt, readBoard, readAnswer};
+
+pub struct Read {
+    pub board: Board,
+    pub shown: Shown,
+}
+
+// Where a channel's part of a memory starts.
+fn base(number: u8, size: usize) -> usize
+    requires { ⌜ (1 ≤ number) × (number ≤ 4) × (size < 2147483648 * 64) ⌝ }
+    ensures { λ r. ⌜ (r ≡ (number - 1) * size) × (r + size ≤ 4 * size) ⌝ }
+{
+    (number - 1) as usize * size
+}
+
+// A write to a channel's register, over its part of the readbacks.
+fn write_channel(b: Board, readbacks: &mut [u32], number: u8, offset: u16, value: u16) -> Written
+    requires { ⌜ (1 ≤ number) × (number ≤ 4) × (length (now readbacks) ≡ b .m * 8) ⌝ }
+    ensures { λ r. ⌜ (r .board ≡ put b number (writtenOf (chan b number) offset value)) × (outcomeOf (r .outcome) ≡ writtenAnswer offset value) × (now (readbacks .exit) ≡ withOwn (now (readbacks .entry)) (readbackSize b) number (writtenWords (chan b number) (own (now (readbacks .entry)) (readbackSize b) number) (b .m) offset value)) ⌝ }
+{
+    let m = b.m;
+    let c = b.channel(number);
+    let size = m as usize * 2;
+    let a = base(number, size);
+    let e = a + size;
+    let w = channel::write_register(c, &mut readbacks[a..e], m, offset, value);
+    let x = w.channel;
+    let outcome = w.outcome;
+    Written {
+        board: b.with_channel(number, x),
+        outcome: outcome,
+    }
+}
+
+// A write to a Main register.
+fn write_main(b: Board, offset: u16, value: u16) -> Written
+    ensures { λ r. ⌜ (r .board ≡ writeBoardAt (main offset) b value) × (outcomeOf (r .outcome) ≡ writeAnswerAt (main offset) value) ⌝ }
+{
+    let v = register_map::write_verdict(register_map::main_access(offset));
+    match v {
+        Verdict::Allowed => Written {
+            board: b.main_written(offset, value),
+            outcome: Outcome::Done,
+        },
+        Verdict::Refused(k) => Written {
+            board: b,
+            outcome: Outcome::Refused(k),
+        },
+    }
+}
+
+pub fn write_register(b: Board, readbacks: &mut [u32], address: u32, value: u16) -> Written
+    ensures { λ r. ⌜ (r .board ≡ writeBoard b (length (now (readbacks .entry))) address value) × (outcomeOf (r .outcome) ≡ writeAnswer b (length (now (readbacks .entry))) address value) × (now (readbacks .exit) ≡ writeWords b (now (readbacks .entry)) address value) ⌝ }
+{
+    if readbacks.len() != b.m as usize * 8 {
+        return Written {
+            board: b,
+            outcome: Outcome::Refused(Refusal::SizeMismatch),
+        };
+    }
+    let region = register_map::decode_address(address);
+    match region {
+        Region::Main { offset } => write_main(b, offset, value),
+        Region::Channel { number, offset } => write_channel(b, readbacks, number, offset, value),
+        Region::Outside => Written {
+            board: b,
+            outcome: Outcome::Refused(Refusal::UnmappedRegister),
+        },
+    }
+}
+
+// A read of a Main register.
+fn read_main(b: Board, offset: u16) -> Read
+    ensures { λ r. ⌜ (r .board ≡ readBoardAt (main offset) b) × (shownOf (r .shown) ≡ readAnswerAt (main offset) b) ⌝ }
+{
+    let v = register_map::read_verdict(register_map::main_access(offset));
+    match v {
+        Verdict::Allowed => Read {
+            board: b.main_read(offset),
+            shown: Shown::Value(b.main_value(offset)),
+        },
+        Verdict::Refused(k) => Read {
+            board: b,
+            shown: Shown::Refused(k),
+        },
+    }
+}
+
+// A read of a channel's register.
+fn read_channel(b: Board, number: u8, offset: u16) -> Read
+    ensures { λ r. ⌜ (r .board ≡ readBoardAt (channel number offset) b) × (shownOf (r .shown) ≡ readAnswerAt (channel number offset) b) ⌝ }
+{
+    let w = channel::read_register(b.channel(number), offset);
+    let x = w.channel;
+    let shown = w.shown;
+    Read {
+        board: b.with_channel(number, x),
+        shown: shown,
+    }
+}
+
+pub fn read_register(b: Board, address: u32) -> Read
+    ensures { λ r. ⌜ (r .board ≡ readBoard b address) × (shownOf (r .shown) ≡ readAnswer b address) ⌝ }
+{
+    let region = register_map::decode_address(address);
+    match region {
+        Region::Main { offset } => read_main(b, offset),
+        Region::Channel { number, offset } => read_channel(b, number, offset),
+        Region::Outside => Read {
+            board: b,
+            shown: Shown::Refused(Refusal::UnmappedRegister),
+        },
+    }
+}

@@ -1,0 +1,35 @@
+-- `board_state::Board::with_channel` meets its contract: by the tests on the way and the contracts of what it calls. Assumes nothing.
+use Prim.Native.Nat.{_-_}
+use Rattle.board_state.proofs.Board.with_channel.Statement.{statement}
+use Rattle.board_state.specs.State.{withChannels}
+use borrow.Author.Needs.{needs}
+use lib.ListN.{length, length-map}
+use lib.Seq.{set-out}
+use mathlib.Core.Path.{_≡_, sym, ap}
+use native.Mathlib.Omega.{arith}
+use Rattle.board_state.proofs.Board.with_channel.Tie as tie
+
+four : (c : tie.Start) → length (c .args .self .channels) ≡ 4
+four c = simp length-map at (c .good .0 .1 .1 .1 .1 .1 .1 .0 .1 .0 .1)
+
+below-requires : tie.Need-below-requires
+below-requires c κs = search needs
+
+cast-i : tie.Need-cast-i
+cast-i c = search needs
+
+mul-c : tie.Need-mul-c
+mul-c c = search needs
+
+element-set-from-c : tie.Need-element-set-from-c
+element-set-from-c c = search needs
+
+returns : tie.Need-returns
+returns c = simp (c .before .below .ensures)
+
+returns-2 : tie.Need-returns-2
+returns-2 c = let s = c .before .before in sym (ap (withChannels (s .args .self)) (set-out (s .args .self .channels) (s .args .number - 1) (s .args .c) (omega (arith, four s, c .if1 .left, c .before .below .ensures))))
+
+pub with-channel-spec : {M : Type 1} → statement M
+with-channel-spec =
+    tie.close (tie.spec below-requires cast-i mul-c element-set-from-c returns returns-2)

@@ -1,0 +1,49 @@
+-- `board_state::main_stored` meets its contract: by the tests on the way and the contracts of what it calls. Assumes nothing.
+use Rattle.board_state.proofs.main_stored.Statement.{statement}
+use Rattle.board_state.specs.Main.{mainStored}
+use borrow.Author.Needs.{needs}
+use borrow.Author.Tests.{eq-eqb, ne-eqb}
+use Rattle.board_state.proofs.main_stored.Tie as tie
+
+cast-y : tie.Need-cast-y
+cast-y c = search needs
+
+returns : tie.Need-returns
+unfolding mainStored
+returns c =
+    simp (eq-eqb _ _ (c .if1 .taken))
+
+returns-2 : tie.Need-returns-2
+unfolding mainStored
+returns-2 c =
+    simp (
+      eq-eqb _ _ (c .if2 .taken),
+      ne-eqb _ _ (c .before .if1 .left),
+    )
+
+mul-y : tie.Need-mul-y
+mul-y c = search needs
+
+add-y : tie.Need-add-y
+add-y c = search needs
+
+returns-3 : tie.Need-returns-3
+unfolding mainStored
+returns-3 c =
+    simp (
+      eq-eqb _ _ (c .if3 .taken),
+      ne-eqb _ _ (c .before .if2 .left),
+      ne-eqb _ _ (c .before .before .if1 .left),
+    )
+
+returns-4 : tie.Need-returns-4
+unfolding mainStored
+returns-4 c =
+    simp (
+      ne-eqb _ _ (c .if3 .left),
+      ne-eqb _ _ (c .before .if2 .left),
+      ne-eqb _ _ (c .before .before .if1 .left),
+    )
+
+pub main-stored-spec : {M : Type 1} → statement M
+main-stored-spec = tie.close (tie.spec cast-y returns returns-2 mul-y add-y returns-3 returns-4)

@@ -1,0 +1,248 @@
+// The board's state: depths, current user, Main registers and four channels. It holds no rule of a channel's life.
+use life::Channel;
+ghost use mathlib.Core.Path.{_≡_};
+ghost use Prim.Native.Nat.{_*_, _≤_};
+ghost use Rattle.status.specs.Bits.{bitOf};
+ghost use Rattle.channel.specs.Calls.{mainBit};
+ghost use Rattle.board_state.specs.State.{opened, chan, put, withUser, eventCame};
+ghost use Rattle.board_state.specs.Main.{mainWord, mainStatus, takenAt, statusRead, mainStored, mainWritten, mainValue, mainRead, levelOf, enabledBit};
+
+// Main's registers: Level, Vector, Enable, and in each status copy whether an event came.
+pub struct Main {
+    pub level: u8,
+    pub vector: u16,
+    pub enable: u16,
+    pub interrupt: bool,
+    pub polling: bool,
+}
+
+pub struct Board {
+    pub n: u32,
+    pub m: u32,
+    pub user: u8,
+    pub main: Main,
+    pub channels: [Channel; 4],
+}
+
+// A bit at its weight.
+fn weigh(bit: bool, weight: u16) -> u16
+    ensures { λ r. ⌜ (r ≡ bitOf bit * weight) × (r ≤ weight) ⌝ }
+{
+    if bit {
+        return weight;
+    }
+    0
+}
+
+// A Main status: D11 is 1, D10-D8 the user less 1, D7-D4 channels 4-1, D3 an event came.
+fn main_word(user: u8, one: bool, two: bool, three: bool, four: bool, event: bool) -> u16
+    ensures { λ r. ⌜ r ≡ mainWord user one two three four event ⌝ }
+{
+    let channels = weigh(four, 128) + weigh(three, 64) + weigh(two, 32) + weigh(one, 16);
+    2048 + registers::below(user) as u16 % 8 * 256 + channels + weigh(event, 8)
+}
+
+// A channel's bit in a Main status.
+fn main_bit(c: Channel, polling: bool) -> bool
+    ensures { λ r. ⌜ r ≡ mainBit c polling ⌝ }
+{
+    channel::take_main(c, polling).bit
+}
+
+fn main_stored(x: Main, offset: u16, value: u16) -> Main
+    ensures { λ r. ⌜ r ≡ mainStored x offset value ⌝ }
+{
+    let mut y = x;
+    if offset == 0x22 {
+        y.level = (value % 8) as u8;
+        return y;
+    }
+    if offset == 0x24 {
+        y.vector = value;
+        return y;
+    }
+    if offset == 0x26 {
+        y.enable = value % 256 / 16 * 16 + value % 256 % 8;
+        return y;
+    }
+    y
+}
+
+impl Board {
+    // A board as it is opened at these depths.
+    pub fn opened(n: u32, m: u32) -> Board
+        ensures { λ r. ⌜ r ≡ opened n m ⌝ }
+    {
+        let c = Channel::opened();
+        Board {
+            n: n,
+            m: m,
+            user: 1,
+            main: Main {
+                level: 0,
+                vector: 0,
+                enable: 0,
+                interrupt: false,
+                polling: false,
+            },
+            channels: [c, c, c, c],
+        }
+    }
+
+    // Channel 1 to 4.
+    pub fn channel(self, number: u8) -> Channel
+        ensures { λ r. ⌜ r ≡ chan self number ⌝ }
+    {
+        let i = registers::below(number) as usize;
+        if i < 4 {
+            return self.channels[i];
+        }
+        Channel::opened()
+    }
+
+    // The board with channel 1 to 4 replaced.
+    pub fn with_channel(self, number: u8, c: Channel) -> Board
+        ensures { λ r. ⌜ r ≡ put self number c ⌝ }
+    {
+        let i = registers::below(number) as usize;
+        let mut b = self;
+        if i < 4 {
+            b.channels[i] = c;
+        }
+        b
+    }
+
+    pub fn with_user(self, user: u8) -> Board
+        ensures { λ r. ⌜ r ≡ withUser self user ⌝ }
+    {
+        let mut b = self;
+        b.user = user;
+        b
+    }
+
+    // An event came: D3 of both Main statuses.
+    pub fn event_came(self) -> Board
+        ensures { λ r. ⌜ r ≡ eventCame self ⌝ }
+    {
+        let mut b = self;
+        let mut x = b.main;
+        x.interrupt = true;
+        x.polling = true;
+        b.main = x;
+        b
+    }
+
+    // Main's Interrupt Status, or its Polling Status.
+    fn main_status(self, polling: bool) -> u16
+        ensures { λ r. ⌜ r ≡ mainStatus self polling ⌝ }
+    {
+        let x = self.main;
+        let one = main_bit(self.channel(1), polling);
+        let two = main_bit(self.channel(2), polling);
+        let three = main_bit(self.channel(3), polling);
+        let four = main_bit(self.channel(4), polling);
+        if polling {
+            return main_word(self.user, one, two, three, four, x.polling);
+        }
+        main_word(self.user, one, two, three, four, x.interrupt)
+    }
+
+    // A channel's bit of a Main status cleared.
+    fn taken(self, number: u8, polling: bool) -> Board
+        ensures { λ r. ⌜ r ≡ takenAt self number polling ⌝ }
+    {
+        let t = channel::take_main(self.channel(number), polling);
+        let c = t.channel;
+        self.with_channel(number, c)
+    }
+
+    // A Main status read: D7-D3 of that copy clear.
+    fn status_read(self, polling: bool) -> Board
+        ensures { λ r. ⌜ r ≡ statusRead self polling ⌝ }
+    {
+        let mut b = self.taken(1, polling)
+            .taken(2, polling)
+            .taken(3, polling)
+            .taken(4, polling);
+        let mut x = b.main;
+        if polling {
+            x.polling = false;
+            b.main = x;
+            return b;
+        }
+        x.interrupt = false;
+        b.main = x;
+        b
+    }
+
+    // A write to Level, Vector or Enable.
+    pub fn main_written(self, offset: u16, value: u16) -> Board
+        ensures { λ r. ⌜ r ≡ mainWritten self offset value ⌝ }
+    {
+        let mut b = self;
+        let x = b.main;
+        b.main = main_stored(x, offset, value);
+        b
+    }
+
+    // What a read of a Main register shows.
+    pub fn main_value(self, offset: u16) -> u16
+        ensures { λ r. ⌜ r ≡ mainValue self offset ⌝ }
+    {
+        let x = self.main;
+        if offset == 0x22 {
+            return x.level as u16;
+        }
+        if offset == 0x24 {
+            return x.vector;
+        }
+        if offset == 0x26 {
+            return x.enable;
+        }
+        self.main_status(offset == 0x2a)
+    }
+
+    // The board after a read of a Main register.
+    pub fn main_read(self, offset: u16) -> Board
+        ensures { λ r. ⌜ r ≡ mainRead self offset ⌝ }
+    {
+        if offset == 0x28 {
+            return self.status_read(false);
+        }
+        if offset == 0x2a {
+            return self.status_read(true);
+        }
+        self
+    }
+
+    // Whether a channel's bit of Main's Interrupt Status is set and enabled.
+    fn interrupts(self, number: u8, bit: u8) -> bool
+        ensures { λ r. ⌜ r ≡ enabledBit (chan self number) (self .main .enable) bit ⌝ }
+    {
+        if main_bit(self.channel(number), false) {
+            let x = self.main;
+            return status::is_set(x.enable, bit);
+        }
+        false
+    }
+
+    // Level, if a channel's interrupt is set and enabled.
+    pub fn interrupt_level(self) -> u8
+        ensures { λ r. ⌜ r ≡ levelOf self ⌝ }
+    {
+        let x = self.main;
+        if self.interrupts(1, 4) {
+            return x.level;
+        }
+        if self.interrupts(2, 5) {
+            return x.level;
+        }
+        if self.interrupts(3, 6) {
+            return x.level;
+        }
+        if self.interrupts(4, 7) {
+            return x.level;
+        }
+        0
+    }
+}

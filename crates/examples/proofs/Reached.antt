@@ -1,0 +1,35 @@
+-- The channels that the starred rows speak of are reached by calls, by computation. Assumes nothing.
+use Prim.Native.Nat.{ℕ}
+use mathlib.Core.Path.{refl}
+use native.Mathlib.Omega.{arith}
+use Rattle.register_map.specs.AccessRule.{channelAccess}
+use Rattle.registers.specs.Map.{stored}
+use Rattle.sequencer.specs.Playing as seq
+use Rattle.life.specs.State.{opened}
+use Rattle.channel.specs.Calls.{registerRefusal, registerEffect, registerWords, setpointRefusal, setpointWords, armedOf}
+use Rattle.channel.specs.Alone.{refusalOf, effect, move}
+use Rattle.examples.specs.Starred.{PauseOne}
+use Rattle.examples.specs.Reached.{pausing, Reached}
+
+pauses : (low : ℕ) → PauseOne (pausing low) 1
+unfolding move refusalOf effect registerRefusal registerEffect registerWords channelAccess stored setpointRefusal setpointWords armedOf seq.armed opened
+pauses low =
+    record {
+      armed = refl;
+      clock-code = refl;
+      pause-bit = refl;
+      last-bit = refl;
+      deep = omega arith;
+      resume-1 = refl;
+      resume-only = (refl, refl);
+    }
+
+pub reached : Reached
+unfolding move refusalOf effect registerRefusal registerEffect registerWords channelAccess stored setpointRefusal setpointWords armedOf seq.armed opened
+reached =
+    record {
+      start-0 = (refl, refl, refl);
+      start-most = (refl, refl, refl);
+      resume-25 = (pauses 25, refl);
+      resume-0 = (pauses 0, refl);
+    }

@@ -1,0 +1,114 @@
+-- Arming, Start and Resume keep the count and the last send, idle no channel, and keep the countdowns in range. Assumes nothing.
+use Prim.Native.Nat.{ℕ, _≤_}
+use mathlib.Core.Path.{_≡_, refl, _∙_, subst}
+use mathlib.Core.Bool.{Bool, true, false}
+use native.Mathlib.Omega.{arith}
+use lib.Dec.{eqb}
+use Rattle.sequencer.specs.declared.Stage.{Stage}
+use Rattle.sequencer.specs.declared.Stage.the-variants as stage
+use Rattle.sequencer.specs.declared.Sequencer.{Sequencer}
+use Rattle.sequencer.specs.Playing.{isIdle, armed, started, loadedResume, resumedAt, resumed}
+use Rattle.life.specs.declared.Channel.{Channel}
+use Rattle.life.specs.Life.{startedIf, resumedIf, resumedOn, eventOf, commanded, endedIf}
+use Rattle.life.specs.Life as life
+use Rattle.status.specs.Bits.{bitAt}
+use Rattle.registers.specs.Map.{triggersOf, groupEndEvent}
+use Rattle.channel.proofs.Ranges.{clash}
+use Rattle.histories.specs.Ranges.{Countdown, Playing}
+use Rattle.histories.proofs.Cases.{either}
+
+pub record Keeps (s t : Sequencer) : Type 0 where
+  pub count-kept : t .count ≡ s .count
+  pub last-kept : t .last ≡ s .last
+  pub idle-kept : isIdle (t .stage) ≡ true → isIdle (s .stage) ≡ true
+  pub playing-kept : (n : ℕ) → 1 ≤ n → Playing n s → Playing n t
+
+pub keeps-all : (s : Sequencer) → Keeps s s
+keeps-all s = record { count-kept = refl; last-kept = refl; idle-kept = λ e. e; playing-kept = λ n h p. p }
+
+pub keeps-both : {s t u : Sequencer} → Keeps s t → Keeps t u → Keeps s u
+keeps-both a b =
+    record {
+      count-kept = b .count-kept ∙ a .count-kept;
+      last-kept = b .last-kept ∙ a .last-kept;
+      idle-kept = λ e. a .idle-kept (b .idle-kept e);
+      playing-kept = λ n h p. b .playing-kept n h (a .playing-kept n h p);
+    }
+
+pub keeps-armed : (s : Sequencer) → Keeps s (armed s)
+unfolding armed
+keeps-armed s =
+    record {
+      count-kept = refl;
+      last-kept = refl;
+      idle-kept = λ e. e;
+      playing-kept = λ n h p. record { index-due = p .index-due; countdown = p .countdown };
+    }
+
+keeps-started : (s : Sequencer) (delay : ℕ) → Keeps s (started s delay)
+unfolding started
+keeps-started s delay =
+    record {
+      count-kept = refl;
+      last-kept = refl;
+      idle-kept = λ e. clash e;
+      playing-kept = λ n h p. record { index-due = h; countdown = omega arith };
+    }
+
+-- what is loaded in a pause counts on
+loaded-countdown : (k left resume : ℕ) (g : Stage) → g ≡ stage.Paused k → Countdown g left resume → 1 ≤ left
+loaded-countdown k left resume g e p = (subst (λ (x : Stage). Countdown x left resume) e p) .0
+
+keeps-loaded : (s : Sequencer) (k delay : ℕ) → s .stage ≡ stage.Paused k → Keeps s (loadedResume s delay)
+keeps-loaded s k delay e =
+    record {
+      count-kept = refl;
+      last-kept = refl;
+      idle-kept = λ f. clash f;
+      playing-kept =
+          λ n h p.
+          record {
+            index-due = p .index-due;
+            countdown = (loaded-countdown k (s .left) (s .resume) (s .stage) e (p .countdown), omega arith);
+          };
+    }
+
+keeps-resumed : (s : Sequencer) (pause delay : ℕ) → Keeps s (resumed s pause delay)
+unfolding resumed
+keeps-resumed s pause delay = go (s .stage) refl
+  where
+    go : (g : Stage) → s .stage ≡ g → Keeps s (resumedAt g s pause delay)
+    go stage.Idle e = keeps-all s
+    go stage.Starting e = keeps-all s
+    go stage.Running e = keeps-all s
+    go (stage.Paused k) e = either (Keeps s) (eqb k pause) (loadedResume s delay) s (keeps-loaded s k delay e) (keeps-all s)
+    go stage.Resuming e = keeps-all s
+    go stage.Ended e = keeps-all s
+
+keeps-channel-started : (c : Channel) (delay : ℕ) → Keeps (c .sequencer) (life.started c delay .sequencer)
+unfolding life.started
+keeps-channel-started c delay =
+    either (λ (x : Channel). Keeps (c .sequencer) (x .sequencer)) (c .sequencer .armed) _ c (keeps-started (c .sequencer) delay) (keeps-all (c .sequencer))
+
+keeps-started-if : (on : Bool) (c : Channel) (delay : ℕ) → Keeps (c .sequencer) (startedIf on c delay .sequencer)
+unfolding startedIf
+keeps-started-if true c delay = keeps-channel-started c delay
+keeps-started-if false c delay = keeps-all (c .sequencer)
+
+keeps-resumed-if : (on : Bool) (c : Channel) (pause delay : ℕ) → Keeps (c .sequencer) (resumedIf on c pause delay .sequencer)
+unfolding resumedIf
+keeps-resumed-if true c pause delay = keeps-resumed (c .sequencer) pause delay
+keeps-resumed-if false c pause delay = keeps-all (c .sequencer)
+
+-- Start, then Resume: what one event or command does after its Group End, if any
+pub keeps-event : (c : Channel) (user code : ℕ)
+    → Keeps (endedIf (triggersOf (c .registers) groupEndEvent code) c .sequencer) (eventOf c user code .sequencer)
+unfolding eventOf resumedOn
+keeps-event c user code =
+    keeps-both (keeps-started-if _ _ _)
+    (keeps-both (keeps-resumed-if _ _ _ _)
+    (keeps-both (keeps-resumed-if _ _ _ _) (keeps-both (keeps-resumed-if _ _ _ _) (keeps-resumed-if _ _ _ _))))
+
+pub keeps-command : (c : Channel) (value : ℕ) → Keeps (endedIf (bitAt value 2) c .sequencer) (commanded c value .sequencer)
+unfolding commanded
+keeps-command c value = keeps-both (keeps-started-if _ _ _) (keeps-resumed-if _ _ _ _)

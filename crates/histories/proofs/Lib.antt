@@ -1,0 +1,13 @@
+pub mod Cases
+pub mod Refusing
+pub mod Depths
+pub mod Keeps
+pub mod Ticks
+pub mod Steps
+pub mod Calls
+pub mod Counting
+pub mod Showing
+pub mod Windows
+pub mod Replying
+pub mod Parts
+pub mod Ranges

@@ -1,0 +1,193 @@
+-- Status, registers and stored readback counts stay in range through what a channel does. Assumes nothing.
+use Prim.Native.Nat.{ℕ, suc, _+_, _≤_}
+use mathlib.Core.Path.{_≡_, refl, _∙_, ap}
+use mathlib.Core.Bool.{Bool, true, false}
+use mathlib.Core.List.{List, [], _∷_}
+use native.Mathlib.Omega.{arith}
+use lib.ListN.{length, length-set}
+use lib.Dec.{eqb, ltb}
+use borrow.Author.Tests.{ltb-true}
+use Rattle.frame.specs.Frames.{Reading, read, crcRight}
+use Rattle.frame.specs.Frames as frame
+use Rattle.status.specs.declared.Status.{Status}
+use Rattle.status.specs.Latching.{latched, groupEnd, earlyEnd, run, crcError}
+use Rattle.registers.specs.declared.Registers.{Registers}
+use Rattle.registers.specs.Map.{stored, flips}
+use Rattle.registers.specs.Map as reg
+use Rattle.sequencer.specs.declared.Sequencer.{Sequencer}
+use Rattle.sequencer.specs.declared.Transmission.{Transmission}
+use Rattle.sequencer.specs.declared.Transmission.the-variants as transmission
+use Rattle.sequencer.specs.Playing.{isIdle, unfinished}
+use Rattle.readback.specs.declared.Readbacks.{Readbacks}
+use Rattle.readback.specs.declared.Disposition.{Disposition}
+use Rattle.readback.specs.declared.Disposition.the-variants as disposition
+use Rattle.readback.specs.Storing.{keptIn, capacity}
+use Rattle.life.specs.declared.Channel.{Channel}
+use Rattle.life.specs.State.{opened, reset, withStatus, withRegisters, withSequencer, happened}
+use Rattle.life.specs.Life.{started, startedIf, endedIf, resumedIf, resumedOn, eventOf, commanded, groupEnded, earlyEnded, userChanged, sendStatus, playedOf, tickOf, crcStatus, fateOf, fateChannel, replyAs, replyOf}
+use Rattle.histories.proofs.Cases.{either, by-test}
+use Rattle.histories.specs.Ranges.{StatusInRange, RegistersInRange, ReadbacksInRange, ChannelInRange}
+
+-- ---- Status
+
+pub latched-range : (s : Status) (bit : ℕ) → StatusInRange s → StatusInRange (latched s bit)
+unfolding latched
+latched-range s bit h =
+    record { interrupt = simp length-set (h .interrupt); polling = simp length-set (h .polling) }
+
+early-range : (s : Status) (q : Sequencer) → StatusInRange s → StatusInRange (earlyEnded s q)
+early-range s q h = either StatusInRange (unfinished q) (latched s earlyEnd) s (latched-range s earlyEnd h) h
+
+send-range : (s : Status) (x : Transmission) → StatusInRange s → StatusInRange (sendStatus s x)
+send-range s transmission.Nothing h = h
+send-range s (transmission.Word word k) h = either StatusInRange (eqb k 0) s (latched s k) h (latched-range s k h)
+
+crc-range : (s : Status) (right : Bool) → StatusInRange s → StatusInRange (crcStatus s right)
+crc-range s true h = h
+crc-range s false h = latched-range s crcError h
+
+-- ---- Registers
+
+length-flips : (a s : List Bool) → length (flips a s) ≡ length a
+unfolding flips
+length-flips [] s = refl
+length-flips (x ∷ a) [] = refl
+length-flips (x ∷ a) (y ∷ s) = ap suc (length-flips a s)
+
+group-registers : (r : Registers) (count : ℕ) → RegistersInRange r → RegistersInRange (reg.groupEnded r count)
+unfolding reg.groupEnded
+group-registers r count h =
+    record {
+      clock = h .clock;
+      active = length-flips _ (r .switches) ∙ simp length-set (h .active);
+      events = h .events;
+      switches = refl;
+      delays = h .delays;
+    }
+
+-- a register write whose clock code was accepted
+pub stored-range : (r : Registers) (offset value : ℕ) → (eqb offset 0x0a ≡ true → value ≤ 3) → RegistersInRange r
+    → RegistersInRange (stored r offset value)
+unfolding stored
+stored-range r offset value code h =
+    let P = RegistersInRange in
+    by-test P (eqb offset 0x0a) _ _
+    (λ e. record { clock = code e; active = h .active; events = h .events; switches = h .switches; delays = h .delays })
+    (λ e.
+    either P (eqb offset 0x14) _ _
+    (record { clock = h .clock; active = h .active; events = h .events; switches = h .switches; delays = h .delays })
+    (either P (ltb offset 0x20) _ _ h
+    (either P (ltb offset 0x2c) _ _
+    (record { clock = h .clock; active = h .active; events = simp length-set (h .events); switches = h .switches; delays = h .delays })
+    (either P (ltb offset 0x30) _ _ h
+    (either P (ltb offset 0x40) _ _
+    (record { clock = h .clock; active = h .active; events = h .events; switches = simp length-set (h .switches); delays = h .delays })
+    (either P (ltb offset 0xe0) _ _
+    (record { clock = h .clock; active = h .active; events = h .events; switches = h .switches; delays = simp length-set (h .delays) })
+    h))))))
+
+-- ---- The channel
+
+module _ (m : ℕ) where
+  pub with-status : (c : Channel) (s : Status) → StatusInRange s → ChannelInRange m c → ChannelInRange m (withStatus c s)
+  with-status c s h k = record { status = h; registers = k .registers; readbacks = k .readbacks }
+
+  pub with-registers : (c : Channel) (r : Registers) → RegistersInRange r → ChannelInRange m c → ChannelInRange m (withRegisters c r)
+  with-registers c r h k = record { status = k .status; registers = h; readbacks = k .readbacks }
+
+  pub with-sequencer : (c : Channel) (s : Sequencer) → ChannelInRange m c → ChannelInRange m (withSequencer c s)
+  with-sequencer c s k = record { status = k .status; registers = k .registers; readbacks = k .readbacks }
+
+  pub opened-range : ChannelInRange m opened
+  unfolding opened
+  opened-range =
+      record {
+        status = record { interrupt = refl; polling = refl };
+        registers = record { clock = omega arith; active = refl; events = refl; switches = refl; delays = refl };
+        readbacks = record { stored = omega arith; retired = omega arith };
+      }
+
+  pub reset-range : (c : Channel) → ChannelInRange m (reset c)
+  unfolding opened reset
+  reset-range c =
+      record {
+        status = record { interrupt = refl; polling = refl };
+        registers = opened-range .registers;
+        readbacks = opened-range .readbacks;
+      }
+
+  started-range : (c : Channel) (delay : ℕ) → ChannelInRange m c → ChannelInRange m (started c delay)
+  unfolding started
+  started-range c delay h =
+      either (ChannelInRange m) (c .sequencer .armed) _ c
+      (with-sequencer _ _
+      (either (ChannelInRange m) (isIdle (c .sequencer .stage)) (happened c run) c
+      (with-status c _ (latched-range (c .status) run (h .status)) h) h))
+      h
+
+  group-range : (c : Channel) → ChannelInRange m c → ChannelInRange m (groupEnded c)
+  unfolding groupEnded
+  group-range c h =
+      record {
+        status = latched-range _ groupEnd (early-range (c .status) (c .sequencer) (h .status));
+        registers = group-registers (c .registers) (c .sequencer .count) (h .registers);
+        readbacks = record { stored = omega arith; retired = h .readbacks .stored };
+      }
+
+  ended-if-range : (on : Bool) (c : Channel) → ChannelInRange m c → ChannelInRange m (endedIf on c)
+  unfolding endedIf
+  ended-if-range on c h = either (ChannelInRange m) on _ c (group-range c h) h
+
+  started-if-range : (on : Bool) (c : Channel) (delay : ℕ) → ChannelInRange m c → ChannelInRange m (startedIf on c delay)
+  unfolding startedIf
+  started-if-range on c delay h = either (ChannelInRange m) on _ c (started-range c delay h) h
+
+  resumed-if-range : (on : Bool) (c : Channel) (pause delay : ℕ) → ChannelInRange m c → ChannelInRange m (resumedIf on c pause delay)
+  unfolding resumedIf
+  resumed-if-range on c pause delay h = either (ChannelInRange m) on _ c (with-sequencer c _ h) h
+
+  pub event-range : (c : Channel) (user code : ℕ) → ChannelInRange m c → ChannelInRange m (eventOf c user code)
+  unfolding eventOf resumedOn
+  event-range c user code h =
+      resumed-if-range _ _ _ _ (resumed-if-range _ _ _ _ (resumed-if-range _ _ _ _ (resumed-if-range _ _ _ _
+      (started-if-range _ _ _ (ended-if-range _ c h)))))
+
+  pub command-range : (c : Channel) (value : ℕ) → ChannelInRange m c → ChannelInRange m (commanded c value)
+  unfolding commanded
+  command-range c value h = resumed-if-range _ _ _ _ (started-if-range _ _ _ (ended-if-range _ c h))
+
+  pub user-range : (c : Channel) → ChannelInRange m c → ChannelInRange m (userChanged c)
+  unfolding userChanged
+  user-range c h = with-sequencer _ _ (with-status c _ (early-range (c .status) (c .sequencer) (h .status)) h)
+
+  pub tick-range : (c : Channel) (s : List ℕ) (n user : ℕ) → ChannelInRange m c → ChannelInRange m (tickOf c s n user)
+  unfolding tickOf
+  tick-range c s n user h =
+      with-sequencer _ _ (with-status c _ (send-range (c .status) (playedOf c s n user .transmission) (h .status)) h)
+
+  kept-range : (r : Readbacks) → ReadbacksInRange m r → ReadbacksInRange m (keptIn r m)
+  kept-range r h =
+      record {
+        stored =
+            by-test (λ (x : ℕ). x ≤ m) (ltb (r .stored) (capacity m)) (r .stored + 1) (r .stored)
+            (λ e. omega (arith, ltb-true (r .stored) m e)) (λ e. h .stored);
+        retired = h .retired;
+      }
+
+  fate-range : (d : Disposition) (c : Channel) (right : Bool) → ChannelInRange m c → ChannelInRange m (fateChannel d c m right)
+  fate-range disposition.Unsolicited c right h = h
+  fate-range disposition.Lost c right h = with-sequencer _ _ (with-status c _ (crc-range (c .status) right (h .status)) h)
+  fate-range disposition.Kept c right h =
+      record {
+        status = crc-range (c .status) right (h .status);
+        registers = h .registers;
+        readbacks = kept-range (c .readbacks) (h .readbacks);
+      }
+
+  pub reply-range : (c : Channel) (f : ℕ) → ChannelInRange m c → ChannelInRange m (replyOf c m f)
+  unfolding replyOf
+  reply-range c f h = go (read f)
+    where
+      go : (g : Reading) → ChannelInRange m (replyAs g c m)
+      go (frame.refused k) = h
+      go (frame.fields id word aux crc) = fate-range (fateOf c m) c (crcRight id word aux crc) h

@@ -1,0 +1,35 @@
+-- A refused call changes nothing and answers its number; what holds of both kinds of call holds of any. Assumes nothing.
+use mathlib.Core.Path.{_≡_, refl, ap}
+use mathlib.Core.Bool.{Bool, true, false, cond}
+use lib.Dec.{eqb}
+use Rattle.life.specs.Answers.{Answer, refused}
+use Rattle.channel.specs.Alone.{ChannelCall, Alone, refusalOf, effect, answer, move, says}
+use Rattle.channel.specs.History.{entry, asksGroupEnd, asksReset, endsGroup, resets}
+use Rattle.histories.specs.Refusing.{RefusedChangesNothing}
+
+pub refused-nothing : RefusedChangesNothing
+unfolding move says
+refused-nothing o k h =
+    (ap (λ (b : Bool). cond b (effect o k) o) h, ap (λ (b : Bool). cond b (answer o k) (refused (refusalOf o k))) h)
+
+-- a call that is not refused has its effect and its answer; a refused one neither moves, ends a group nor resets
+pub by-refusal : (P : Alone → Answer → Bool → Bool → Type 0) (o : Alone) (k : ChannelCall)
+    → (eqb (refusalOf o k) 0 ≡ true → P (effect o k) (answer o k) (asksGroupEnd o k) (asksReset k))
+    → P o (refused (refusalOf o k)) false false
+    → P (move o k) (says o k) (endsGroup (entry o k)) (resets (entry o k))
+unfolding move says
+by-refusal P o k h g = go (eqb (refusalOf o k) 0) refl
+  where
+    go : (b : Bool) → eqb (refusalOf o k) 0 ≡ b
+        → P (cond b (effect o k) o) (cond b (answer o k) (refused (refusalOf o k)))
+        (cond (cond b false true) false (asksGroupEnd o k)) (cond (cond b false true) false (asksReset k))
+    go true e = h e
+    go false e = g
+
+pub accepted-moves : (o : Alone) (k : ChannelCall) → eqb (refusalOf o k) 0 ≡ true → move o k ≡ effect o k
+unfolding move
+accepted-moves o k h = ap (λ (b : Bool). cond b (effect o k) o) h
+
+pub accepted-says : (o : Alone) (k : ChannelCall) → eqb (refusalOf o k) 0 ≡ true → says o k ≡ answer o k
+unfolding says
+accepted-says o k h = ap (λ (b : Bool). cond b (answer o k) (refused (refusalOf o k))) h

@@ -1,0 +1,114 @@
+-- A Group End shows the frames answered before it in registers 10 and 12. Assumes nothing.
+use Prim.Native.Nat.{ℕ, _/_, _%_, min}
+use mathlib.Core.Path.{_≡_, refl, _∙_, ap}
+use mathlib.Core.Bool.{Bool, true, false, _&&_}
+use native.Mathlib.Omega.{arith}
+use lib.Dec.{eqb}
+use Rattle.status.specs.Bits.{bitAt}
+use Rattle.status.specs.Latching.{run}
+use Rattle.register_map.specs.AccessRule.{channelAccess}
+use Rattle.sequencer.specs.Playing.{isIdle}
+use Rattle.life.specs.State.{happened}
+use Rattle.registers.specs.declared.Registers.{Registers}
+use Rattle.registers.specs.Map.{triggersOf, groupEndEvent, loaded}
+use Rattle.registers.specs.Map as reg
+use Rattle.life.specs.declared.Channel.{Channel}
+use Rattle.life.specs.Answers.{Answer, value}
+use Rattle.life.specs.Life.{started, startedIf, endedIf, resumedIf, resumedOn, groupEnded, eventOf, commanded}
+use Rattle.channel.specs.Calls.{registerEffect, readValue}
+use Rattle.channel.specs.Alone.{ChannelCall, Alone, alone, refusalOf, effect, answer, move, says, moves, readRegister}
+use Rattle.channel.specs.Alone as call
+use Rattle.channel.specs.History.{entry, history, asksGroupEnd, endsGroup, framesSince}
+use Rattle.channel.proofs.Ranges.{clash}
+use Rattle.histories.specs.Counting.{mostCounted, ShowsFrames}
+use Rattle.histories.proofs.Counting.{counts-frames}
+use Rattle.histories.proofs.Cases.{either, by-offset}
+use Rattle.histories.proofs.Refusing.{by-refusal}
+
+-- ---- Start and Resume leave the registers
+
+-- a channel with these registers
+abbrev Has : Registers → Channel → Type 0
+Has r c = c .registers ≡ r
+
+started-registers : (on : Bool) (c : Channel) (delay : ℕ) → startedIf on c delay .registers ≡ c .registers
+unfolding startedIf started
+started-registers true c delay =
+    either (Has (c .registers)) (c .sequencer .armed) _ c (either (Has (c .registers)) (isIdle (c .sequencer .stage)) (happened c run) c refl refl) refl
+started-registers false c delay = refl
+
+resumed-registers : (on : Bool) (c : Channel) (pause delay : ℕ) → resumedIf on c pause delay .registers ≡ c .registers
+unfolding resumedIf
+resumed-registers on c pause delay = either (Has (c .registers)) on _ c refl refl
+
+ended-shown : (on : Bool) (c : Channel) → on ≡ true → endedIf on c .registers .shown ≡ c .sequencer .count
+unfolding endedIf groupEnded reg.groupEnded
+ended-shown true c e = refl
+ended-shown false c e = clash e
+
+event-shown : (c : Channel) (user code : ℕ) → triggersOf (c .registers) groupEndEvent code ≡ true
+    → eventOf c user code .registers .shown ≡ c .sequencer .count
+unfolding eventOf resumedOn
+event-shown c user code e =
+    ap (λ (r : Registers). r .shown)
+    (resumed-registers _ _ _ _ ∙ resumed-registers _ _ _ _ ∙ resumed-registers _ _ _ _ ∙ resumed-registers _ _ _ _ ∙ started-registers _ _ _)
+    ∙ ended-shown _ c e
+
+command-shown : (c : Channel) (word : ℕ) → bitAt word 2 ≡ true → commanded c word .registers .shown ≡ c .sequencer .count
+unfolding commanded
+command-shown c word e =
+    ap (λ (r : Registers). r .shown) (resumed-registers _ _ _ _ ∙ started-registers _ _ _) ∙ ended-shown (bitAt word 2) c e
+
+register-shown : (c : Channel) (offset word : ℕ) → (eqb offset 0x08 && bitAt word 2) ≡ true
+    → registerEffect c offset word .registers .shown ≡ c .sequencer .count
+unfolding registerEffect
+register-shown c offset word =
+    by-offset
+    (λ (x : ℕ). (eqb x 0x08 && bitAt word 2) ≡ true → registerEffect c x word .registers .shown ≡ c .sequencer .count)
+    offset (λ e. clash e) (λ e. clash e) (λ e. command-shown c word e) (λ d e f g. clash (rw f at g))
+
+effect-shown : (o : Alone) (k : ChannelCall) → asksGroupEnd o k ≡ true
+    → effect o k .channel .registers .shown ≡ o .channel .sequencer .count
+unfolding effect
+effect-shown o (call.writeRegister lent offset word) e = register-shown (o .channel) offset word e
+effect-shown o (call.readRegister offset) e = clash e
+effect-shown o (call.writeSetpoint lent user buffer index word) e = clash e
+effect-shown o call.arm e = clash e
+effect-shown o call.disarm e = clash e
+effect-shown o (call.reply lent f) e = clash e
+effect-shown o (call.retired one two) e = clash e
+effect-shown o (call.retiredLength one two) e = clash e
+effect-shown o (call.tick lent) e = clash e
+effect-shown o (call.event lent code) e = event-shown (o .channel) (o .user) code e
+effect-shown o (call.changeUser user) e = clash e
+effect-shown o (call.writeMain lent offset word) e = clash e
+effect-shown o (call.readMain offset) e = clash e
+
+-- a Group End, from any state
+pub shown-step : (o : Alone) (k : ChannelCall) → endsGroup (entry o k) ≡ true
+    → move o k .channel .registers .shown ≡ o .channel .sequencer .count
+shown-step o k =
+    by-refusal (λ (x : Alone) (a : Answer) (b c : Bool). b ≡ true → x .channel .registers .shown ≡ o .channel .sequencer .count) o k
+    (λ e. effect-shown o k) (λ e. clash e)
+
+reads-high : (o : Alone) → says o (readRegister 0x10) ≡ value (o .channel .registers .shown / 65536 % 256)
+unfolding channelAccess says refusalOf answer readValue loaded
+reads-high o = refl
+
+reads-low : (o : Alone) → says o (readRegister 0x12) ≡ value (o .channel .registers .shown % 65536)
+unfolding channelAccess says refusalOf answer readValue loaded
+reads-low o = refl
+
+-- at most FFFFFFh, so the high byte is whole
+high-byte : (j : ℕ) → min j mostCounted / 65536 % 256 ≡ min j mostCounted / 65536
+high-byte j = omega arith
+
+pub shows-frames : ShowsFrames
+shows-frames n m setpoints readbacks ks k e =
+    let o = moves (alone n m setpoints readbacks) ks in
+    let c = shown-step o k e ∙ counts-frames n m setpoints readbacks ks in (
+      reads-high (move o k)
+          ∙ ap (λ (x : ℕ). value (x / 65536 % 256)) c
+          ∙ ap value (high-byte (framesSince 0 (history (alone n m setpoints readbacks) ks))),
+      reads-low (move o k) ∙ ap (λ (x : ℕ). value (x % 65536)) c,
+    )

@@ -1,0 +1,172 @@
+-- A tick: what it sends is the last send, it idles nothing, and it keeps the countdowns and the index due in range. Assumes nothing.
+use Prim.Native.Nat.{ℕ, _+_, _-_, _≤_, _<_}
+use mathlib.Core.Path.{_≡_, refl, sym, _∙_, ap}
+use mathlib.Core.Bool.{Bool, true, false, cond}
+use native.Mathlib.Omega.{arith}
+use lib.Dec.{leb}
+use borrow.Author.Tests.{leb-false}
+use Rattle.status.specs.Bits.{bitAt}
+use Rattle.sequencer.specs.Words.{atEnd, kindOf, stageAfter, indexAfter}
+use Rattle.sequencer.specs.declared.Kind.{Kind}
+use Rattle.sequencer.specs.declared.Kind.the-variants as kind
+use Rattle.sequencer.specs.declared.Stage.{Stage}
+use Rattle.sequencer.specs.declared.Stage.the-variants as stage
+use Rattle.sequencer.specs.declared.Sequencer.{Sequencer}
+use Rattle.sequencer.specs.declared.Transmission.{Transmission}
+use Rattle.sequencer.specs.declared.Transmission.the-variants as transmission
+use Rattle.sequencer.specs.declared.Ticked.{Ticked}
+use Rattle.sequencer.specs.Playing.{isIdle, quiet, withLeft, withResume, sentAs, sentNext, repeated, advancing, repeating, resuming, tickedAt, ticked}
+use Rattle.channel.specs.History.{Window}
+use Rattle.channel.proofs.Ranges.{clash}
+use Rattle.histories.specs.Ranges.{Countdown, Playing, Quiet}
+use Rattle.histories.proofs.Cases.{either, by-test}
+
+-- the last send, if any, and the replies after it, as the sequencer holds them
+abbrev pub windowOf : Sequencer → Window
+windowOf s = record { sent = s .last .sent; replies = s .last .replies }
+
+abbrev pub windowSent : Transmission → Window → Window
+windowSent transmission.Nothing w = w
+windowSent (transmission.Word word condition) w = record { sent = true; replies = 0 }
+
+pub record Plays (n p : ℕ) (s : Sequencer) (t : Ticked) : Type 0 where
+  pub window : windowOf (t .sequencer) ≡ windowSent (t .transmission) (windowOf s)
+  pub stays-quiet : Quiet s → Quiet (t .sequencer)
+  pub plays : 1 ≤ p → Playing n s → Playing n (t .sequencer)
+
+countdown-left : (g : Stage) (left resume l : ℕ) → 1 ≤ l → Countdown g left resume → Countdown g l resume
+countdown-left stage.Idle left resume l h c = c
+countdown-left stage.Starting left resume l h c = h
+countdown-left stage.Running left resume l h c = h
+countdown-left (stage.Paused k) left resume l h c = (h, c .1)
+countdown-left stage.Resuming left resume l h c = (h, c .1)
+countdown-left stage.Ended left resume l h c = h
+
+countdown-resume : (g : Stage) (left resume r : ℕ) → 1 ≤ r → Countdown g left resume → Countdown g left r
+countdown-resume stage.Idle left resume r h c = c
+countdown-resume stage.Starting left resume r h c = c
+countdown-resume stage.Running left resume r h c = c
+countdown-resume (stage.Paused k) left resume r h c = c
+countdown-resume stage.Resuming left resume r h c = (c .0, h)
+countdown-resume stage.Ended left resume r h c = c
+
+-- ---- Sending the word due
+
+after-busy : (k : Kind) → isIdle (stageAfter k) ≡ false
+after-busy kind.Plain = refl
+after-busy (kind.Pause k) = refl
+after-busy kind.Last = refl
+
+-- what a word may ask for where the end of the buffer is at hand or not: pauses 0 to 4, and another word only before the end
+abbrev Asks : Bool → Kind → Type 0
+Asks end kind.Plain = end ≡ false
+Asks end (kind.Pause k) = (end ≡ false) × (k ≤ 4)
+Asks end kind.Last = Unit {0}
+
+asks : (word : ℕ) (end : Bool) → Asks end (kindOf word end)
+asks word true = tt
+asks word false =
+    either (Asks false) (bitAt word 31) kind.Last _ tt
+    (either (Asks false) (bitAt word 16) (kind.Pause 1) _ (refl, omega arith)
+    (either (Asks false) (bitAt word 17) (kind.Pause 2) _ (refl, omega arith)
+    (either (Asks false) (bitAt word 18) (kind.Pause 3) _ (refl, omega arith)
+    (either (Asks false) (bitAt word 19) (kind.Pause 4) _ (refl, omega arith)
+    (either (Asks false) (bitAt word 20) (kind.Pause 0) kind.Plain (refl, omega arith) refl)))))
+
+sent-index : (n index : ℕ) (k : Kind) → Asks (atEnd n index) k → index < n → indexAfter k index < n
+sent-index n index kind.Plain a h = omega (arith, leb-false n (index + 1) a)
+sent-index n index (kind.Pause k) a h = omega (arith, leb-false n (index + 1) (a .0))
+sent-index n index kind.Last a h = h
+
+sent-countdown : (end : Bool) (p : ℕ) (k : Kind) → Asks end k → 1 ≤ p → Countdown (stageAfter k) p 0
+sent-countdown end p kind.Plain a h = h
+sent-countdown end p (kind.Pause k) a h = (h, a .1)
+sent-countdown end p kind.Last a h = h
+
+plays-sent : (s : Sequencer) (due n p : ℕ) → Plays n p s (sentNext s due n p)
+unfolding sentNext sentAs
+plays-sent s due n p =
+    let k = kindOf due (atEnd n (s .index)) in
+    let a = asks due (atEnd n (s .index)) in
+    record {
+      window = refl;
+      stays-quiet = λ q e. clash (sym (after-busy k) ∙ e);
+      plays =
+          λ h c.
+          record {
+            index-due = sent-index n (s .index) k a (c .index-due);
+            countdown = sent-countdown (atEnd n (s .index)) p k a h;
+          };
+    }
+
+-- ---- Waiting, repeating, resuming
+
+plays-wait : (s : Sequencer) (n p l : ℕ) → 1 ≤ l → Plays n p s (quiet (withLeft s l))
+plays-wait s n p l h =
+    record {
+      window = refl;
+      stays-quiet = λ q. q;
+      plays =
+          λ g c.
+          record { index-due = c .index-due; countdown = countdown-left (s .stage) (s .left) (s .resume) l h (c .countdown) };
+    }
+
+plays-advancing : (s : Sequencer) (due n p : ℕ) → Plays n p s (advancing s due n p)
+unfolding advancing
+plays-advancing s due n p =
+    by-test (Plays n p s) (leb (s .left) 1) (sentNext s due n p) (quiet (withLeft s (s .left - 1)))
+    (λ e. plays-sent s due n p)
+    (λ e. plays-wait s n p (s .left - 1) (omega (arith, leb-false (s .left) 1 e)))
+
+plays-repeating : (s : Sequencer) (n p : ℕ) → isIdle (s .stage) ≡ false → Plays n p s (repeating s p)
+unfolding repeating repeated
+plays-repeating s n p busy =
+    by-test (Plays n p s) (leb (s .left) 1) (repeated s p) (quiet (withLeft s (s .left - 1)))
+    (λ e.
+    record {
+      window = refl;
+      stays-quiet = λ q i. clash (sym busy ∙ i);
+      plays =
+          λ g c.
+          record { index-due = c .index-due; countdown = countdown-left (s .stage) (s .left) (s .resume) p g (c .countdown) };
+    })
+    (λ e. plays-wait s n p (s .left - 1) (omega (arith, leb-false (s .left) 1 e)))
+
+-- a tick less to the end of the resume, then what the tick does
+plays-resume : (s : Sequencer) (n p r : ℕ) (t : Ticked) → 1 ≤ r → Plays n p (withResume s r) t → Plays n p s t
+plays-resume s n p r t h a =
+    record {
+      window = a .window;
+      stays-quiet = a .stays-quiet;
+      plays =
+          λ g c.
+          a .plays g
+          (record { index-due = c .index-due; countdown = countdown-resume (s .stage) (s .left) (s .resume) r h (c .countdown) });
+    }
+
+plays-quiet : (s : Sequencer) (n p : ℕ) → Plays n p s (quiet s)
+plays-quiet s n p = record { window = refl; stays-quiet = λ q. q; plays = λ g c. c }
+
+plays-resuming : (s : Sequencer) (due n p : ℕ) → isIdle (s .stage) ≡ false → Plays n p s (resuming s due n p)
+unfolding resuming
+plays-resuming s due n p busy =
+    let u = withResume s (s .resume - 1) in
+    by-test (Plays n p s) (leb (s .resume) 1) (sentNext s due n p) (cond (leb (s .resume) 10) (quiet u) (repeating u p))
+    (λ e. plays-sent s due n p)
+    (λ e.
+    let more : 1 ≤ s .resume - 1 = omega (arith, leb-false (s .resume) 1 e) in
+    by-test (Plays n p s) (leb (s .resume) 10) (quiet u) (repeating u p)
+    (λ f. plays-resume s n p (s .resume - 1) (quiet u) more (plays-quiet u n p))
+    (λ f. plays-resume s n p (s .resume - 1) (repeating u p) more (plays-repeating u n p busy)))
+
+pub plays-ticked : (s : Sequencer) (due n p : ℕ) → Plays n p s (ticked s due n p)
+unfolding ticked
+plays-ticked s due n p = go (s .stage) refl
+  where
+    go : (g : Stage) → s .stage ≡ g → Plays n p s (tickedAt g s due n p)
+    go stage.Idle e = plays-quiet s n p
+    go stage.Starting e = plays-advancing s due n p
+    go stage.Running e = plays-advancing s due n p
+    go (stage.Paused k) e = plays-repeating s n p (ap isIdle e)
+    go stage.Resuming e = plays-resuming s due n p (ap isIdle e)
+    go stage.Ended e = plays-repeating s n p (ap isIdle e)

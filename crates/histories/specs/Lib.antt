@@ -1,0 +1,4 @@
+pub mod Refusing
+pub mod Counting
+pub mod Replying
+pub mod Ranges

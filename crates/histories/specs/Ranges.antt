@@ -1,0 +1,79 @@
+-- What a channel's state keeps to, over any list of calls: so no default past a list's end or below a range is ever used.
+use Prim.Native.Nat.{ℕ, _*_, _≤_, _<_}
+use mathlib.Core.Path.{_≡_}
+use mathlib.Core.Bool.{true}
+use mathlib.Core.List.{List}
+use lib.ListN.{length}
+use Rattle.status.specs.declared.Status.{Status}
+use Rattle.registers.specs.declared.Registers.{Registers}
+use Rattle.sequencer.specs.declared.Stage.{Stage}
+use Rattle.sequencer.specs.declared.Stage.the-variants as stage
+use Rattle.sequencer.specs.declared.Sequencer.{Sequencer}
+use Rattle.sequencer.specs.Playing.{isIdle, nothingSent}
+use Rattle.readback.specs.declared.Readbacks.{Readbacks}
+use Rattle.life.specs.declared.Channel.{Channel}
+use Rattle.channel.specs.Alone.{ChannelCall, Alone, alone, move, moves}
+
+-- the ticks to the next send, and those of a resume, while there are any to count; pauses are 0 (VME) to 4
+abbrev pub Countdown : Stage → ℕ → ℕ → Type 0
+Countdown stage.Idle left resume = Unit {0}
+Countdown stage.Starting left resume = 1 ≤ left
+Countdown stage.Running left resume = 1 ≤ left
+Countdown (stage.Paused k) left resume = (1 ≤ left) × (k ≤ 4)
+Countdown stage.Resuming left resume = (1 ≤ left) × (1 ≤ resume)
+Countdown stage.Ended left resume = 1 ≤ left
+
+pub record Playing (n : ℕ) (s : Sequencer) : Type 0 where
+  pub index-due : s .index < n
+  pub countdown : Countdown (s .stage) (s .left) (s .resume)
+
+-- the last send is one "since idle"
+abbrev pub Quiet : Sequencer → Type 0
+Quiet s = isIdle (s .stage) ≡ true → s .last ≡ nothingSent
+
+pub record SequencerInRange (n : ℕ) (s : Sequencer) : Type 0 where
+  pub playing : Playing n s
+  pub replies : s .last .replies ≤ 6
+  pub quiet : Quiet s
+
+pub record StatusInRange (s : Status) : Type 0 where
+  pub interrupt : length (s .interrupt .bits) ≡ 16
+  pub polling : length (s .polling .bits) ≡ 16
+
+pub record RegistersInRange (r : Registers) : Type 0 where
+  pub clock : r .clock ≤ 3
+  pub active : length (r .active) ≡ 16
+  pub events : length (r .events) ≡ 6
+  pub switches : length (r .switches) ≡ 8
+  pub delays : length (r .delays) ≡ 40
+
+pub record ReadbacksInRange (m : ℕ) (r : Readbacks) : Type 0 where
+  pub stored : r .stored ≤ m
+  pub retired : r .retired ≤ m
+
+-- a channel but for its sequencer
+pub record ChannelInRange (m : ℕ) (c : Channel) : Type 0 where
+  pub status : StatusInRange (c .status)
+  pub registers : RegistersInRange (c .registers)
+  pub readbacks : ReadbacksInRange m (c .readbacks)
+
+pub record InRange (o : Alone) : Type 0 where
+  pub depth : 1 ≤ o .n
+  pub readback-depth : 1 ≤ o .m
+  pub user-from : 1 ≤ o .user
+  pub user-to : o .user ≤ 8
+  pub channel : ChannelInRange (o .m) (o .channel)
+  pub sequencer : SequencerInRange (o .n) (o .channel .sequencer)
+  pub setpoint-words : length (o .setpoints) ≡ o .n * 16
+  pub readback-words : length (o .readbacks) ≡ o .m * 2
+
+-- one call, refused or not, from any state in range
+abbrev pub CallKeepsRange : Type 0
+CallKeepsRange = (o : Alone) (k : ChannelCall) → InRange o → InRange (move o k)
+
+-- from an opening of fitting lengths, after any list of calls
+abbrev pub StaysInRange : Type 0
+StaysInRange =
+    (n m : ℕ) (setpoints readbacks : List ℕ)
+    → 1 ≤ n → 1 ≤ m → length setpoints ≡ n * 16 → length readbacks ≡ m * 2
+    → (ks : List ChannelCall) → InRange (moves (alone n m setpoints readbacks) ks)

@@ -1,0 +1,11 @@
+-- Document 01, 'A channel's life': "A refusal follows here from the refusal table, the call and this state, and changes nothing."
+use mathlib.Core.Path.{_≡_}
+use mathlib.Core.Bool.{false}
+use lib.Dec.{eqb}
+use Rattle.life.specs.Answers.{refused}
+use Rattle.channel.specs.Alone.{ChannelCall, Alone, refusalOf, move, says}
+
+-- whatever the state and the call: refused, it leaves all as it was, and answers the refusal's number alone
+abbrev pub RefusedChangesNothing : Type 0
+RefusedChangesNothing =
+    (o : Alone) (k : ChannelCall) → eqb (refusalOf o k) 0 ≡ false → (move o k ≡ o) × (says o k ≡ refused (refusalOf o k))

@@ -1,0 +1,127 @@
+-- DEMAND 3, and what stands beside it: the proofs of the claims in specs/Isolation.antt. Assumes nothing.
+use Prim.Native.Nat.{ℕ, zero, suc, _*_, _≤_}
+use mathlib.Core.Path.{_≡_, refl, sym, ap, ap₂, subst, _∙_}
+use mathlib.Core.Logic.{_⊎_, inl, inr}
+use mathlib.Core.Bool.{Bool, true, false}
+use mathlib.Core.List.{List, [], _∷_, _++_}
+use native.Mathlib.Omega.{arith}
+use lib.ListN.{length}
+use lib.Dec.{eqb}
+use borrow.Author.Tests.{eqb-true}
+use Rattle.life.specs.State as life
+use Rattle.life.specs.Answers.{Answer}
+use Rattle.life.specs.Answers as ans
+use Rattle.channel.specs.Calls.{outside}
+use Rattle.channel.proofs.Ranges.{inside}
+use Rattle.channel.specs.Alone.{Alone, alone, withChannel, moves, tells}
+use Rattle.board_state.specs.State as state
+use Rattle.board.specs.Calls.{openRefusal, openAnswer, openBoard}
+use Rattle.isolation.specs.Calls.{Item, World, refused, given, step, Fits, Allowed, opening}
+use Rattle.isolation.specs.Feeding.{feeds, fed, view}
+use Rattle.isolation.specs.Isolation.{aloneAt, AsAlone, Isolation, FedTheSame}
+use Rattle.isolation.proofs.Parts.{Number}
+use Rattle.isolation.proofs.Cases.{clash}
+use Rattle.isolation.proofs.One.{moves-append, tells-append}
+use Rattle.isolation.proofs.Worlds.{Good, either, step-refused, step-given}
+use Rattle.isolation.proofs.Shapes.{good-plain}
+use Rattle.isolation.proofs.Items.{Holds, item}
+
+-- ---- From any good world
+
+good-step : (w : World) → Good w → (i : Item) → Fits w i → Good (step w i)
+good-step w g i f = go (either w i f)
+  where
+    go : ((refused (w .board) (i .call) (i .lent) ≡ true) ⊎ (i .lent ≡ given w (i .call))) → Good (step w i)
+    go (inl e) = subst Good (sym (step-refused w i e)) g
+    go (inr e) = subst Good (sym (step-given w i e)) (good-plain w g (i .call))
+
+along : (c : ℕ) → Number c → (xs : List Item) (w : World) → Good w → Allowed w xs → AsAlone c w xs (view c w)
+along c h [] w g a = record { heard = refl; ends = refl }
+along c h (i ∷ is) w g a =
+    let s : Holds c w i = item w g c h (i .lent) (i .call) (a .0) in
+    let r : AsAlone c (step w i) is (view c (step w i)) = along c h is (step w i) (good-step w g i (a .0)) (a .1) in
+    record {
+      heard =
+          ap₂ (λ (p q : List Answer). p ++ q) (s .heard) (r .heard ∙ ap (λ (o : Alone). tells o (fed c is)) (s .seen))
+          ∙ sym (tells-append (view c w) (feeds c i) (fed c is));
+      ends = r .ends ∙ ap (λ (o : Alone). moves o (fed c is)) (s .seen) ∙ sym (moves-append (view c w) (feeds c i) (fed c is));
+    }
+
+-- ---- From an opening
+
+open-channel : (n m c : ℕ) → Number c → state.chan (state.opened n m) c ≡ life.opened
+unfolding state.opened
+open-channel n m zero h = refl
+open-channel n m (suc zero) h = refl
+open-channel n m (suc (suc zero)) h = refl
+open-channel n m (suc (suc (suc zero))) h = refl
+open-channel n m (suc (suc (suc (suc zero)))) h = refl
+open-channel n m (suc (suc (suc (suc (suc c))))) h = absurd (omega arith)
+
+module _ (n m : ℕ) (s r : List ℕ) (e : openAnswer n m (length s) (length r) ≡ ans.done) where
+  not-refused : eqb (openRefusal n m (length s) (length r)) 0 ≡ true
+  unfolding openAnswer
+  not-refused = go (eqb (openRefusal n m (length s) (length r)) 0) refl
+    where
+      go : (t : Bool) → eqb (openRefusal n m (length s) (length r)) 0 ≡ t → t ≡ true
+      go true q = refl
+      go false q = let z : ans.refused (openRefusal n m (length s) (length r)) ≡ ans.done = rw q at e in
+          let f : _≡_ {A = ℕ} 0 1 = cc in absurd (omega arith)
+
+  pub opened : openBoard n m (length s) (length r) ≡ state.opened n m
+  unfolding openBoard
+  opened = rw not-refused
+
+  pub open-lengths : (length s ≡ n * 64) × (length r ≡ m * 8)
+  unfolding openRefusal
+  open-lengths =
+      go (outside 1 1048576 n) refl (outside 1 8388608 m) refl (eqb (length s) (n * 64)) refl (eqb (length r) (m * 8)) refl
+    where
+      go : (a : Bool) → outside 1 1048576 n ≡ a → (b : Bool) → outside 1 8388608 m ≡ b
+          → (t : Bool) → eqb (length s) (n * 64) ≡ t → (q : Bool) → eqb (length r) (m * 8) ≡ q
+          → (length s ≡ n * 64) × (length r ≡ m * 8)
+      go true p b k t x q y = clash (rw p at not-refused)
+      go false p true k t x q y = clash (rw (p, k) at not-refused)
+      go false p false k false x q y = clash (rw (p, k, x) at not-refused)
+      go false p false k true x false y = clash (rw (p, k, x, y) at not-refused)
+      go false p false k true x true y = (eqb-true (length s) (n * 64) x, eqb-true (length r) (m * 8) y)
+
+  -- "Depth N .. is 1 to 1,048,576. Depth M .. is 1 to 8,388,608."
+  pub open-depths : (1 ≤ n) × (1 ≤ m)
+  unfolding openRefusal
+  open-depths = go (outside 1 1048576 n) refl (outside 1 8388608 m) refl
+    where
+      go : (a : Bool) → outside 1 1048576 n ≡ a → (b : Bool) → outside 1 8388608 m ≡ b → (1 ≤ n) × (1 ≤ m)
+      go true p b k = clash (rw p at not-refused)
+      go false p true k = clash (rw (p, k) at not-refused)
+      go false p false k = (inside 1 1048576 n p .0, inside 1 8388608 m k .0)
+
+  abbrev pub world : World
+  world = record { board = state.opened n m; setpoints = s; readbacks = r }
+
+  pub open-world : opening n m s r ≡ world
+  open-world = ap (λ b. record { board = b; setpoints = s; readbacks = r }) opened
+
+  pub good-opening : Good (opening n m s r)
+  unfolding state.opened
+  good-opening = subst Good (sym open-world) (record { four = refl; sets = open-lengths .0; reads = open-lengths .1 })
+
+  view-opening : (c : ℕ) → Number c → view c (opening n m s r) ≡ aloneAt c n m s r
+  unfolding state.opened
+  view-opening c h =
+      ap (view c) open-world ∙ ap (withChannel (aloneAt c n m s r)) (open-channel n m c h)
+
+pub isolation : Isolation
+isolation n m s r e c low high xs a =
+    let h : Number c = record { low = low; high = high } in
+    subst (AsAlone c (opening n m s r) xs) (view-opening n m s r e c h)
+    (along c h xs (opening n m s r) (good-opening n m s r e) a)
+
+pub fed-the-same : FedTheSame
+fed-the-same n m s r s' r' e e' c low high p q xs ys a b same =
+    let x = isolation n m s r e c low high xs a in
+    let y = isolation n m s' r' e' c low high ys b in
+    (x .heard ∙ ap₂ tells o same ∙ sym (y .heard), x .ends ∙ ap₂ moves o same ∙ sym (y .ends))
+  where
+    o : aloneAt c n m s r ≡ aloneAt c n m s' r'
+    o = ap₂ (alone n m) p q

@@ -1,0 +1,16 @@
+pub mod Parts
+pub mod Cases
+pub mod Refused
+pub mod One
+pub mod Words
+pub mod Worlds
+pub mod Events
+pub mod Shapes
+pub mod Mains
+pub mod Views
+pub mod Others
+pub mod Hearing
+pub mod Items
+pub mod Isolation
+pub mod Shown
+pub mod Defaults

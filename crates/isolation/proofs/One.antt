@@ -1,0 +1,241 @@
+-- The one-channel definition, said by the channel's own calls: what each call does to it and answers; refused, it stands still. Assumes nothing.
+use Prim.Native.Nat.{ℕ, _*_}
+use mathlib.Core.Path.{_≡_, refl, sym, ap, ap₂, _∙_}
+use mathlib.Core.Bool.{Bool, true, false, cond}
+use mathlib.Core.List.{List, [], _∷_, _++_}
+use lib.Dec.{eqb}
+use Rattle.frame.specs.Frames.{Reading, read}
+use Rattle.frame.specs.Frames as frame
+use Rattle.register_map.specs.AccessRule.{channelAccess, mainAccess}
+use Rattle.register_map.specs.Verdicts.{readRefusal, writeRefusal}
+use Rattle.sequencer.specs.declared.Transmission.{Transmission}
+use Rattle.sequencer.specs.declared.Transmission.the-variants as transmission
+use Rattle.registers.specs.declared.Registers.{Registers}
+use Rattle.life.specs.declared.Channel.{Channel}
+use Rattle.life.specs.Answers.{Answer}
+use Rattle.life.specs.Answers as ans
+use Rattle.life.specs.Life.{sendFrame, playedOf, replyAnswerAs, replyAs, replyWordsAs}
+use Rattle.life.specs.Life as life
+use Rattle.channel.specs.Calls.{unless, registerRefusal, setpointRefusal}
+use Rattle.channel.specs.Calls as chn
+use Rattle.channel.specs.Alone.{Alone, ChannelCall, withChannel, withSetpoints, withReadbacks, refusalOf, effect, answer, move, says, moves, tells, then, lengthRefusal, framingRefusal, mainHeard}
+use Rattle.channel.specs.Alone as to
+use Rattle.board.specs.Calls.{sizeMismatch}
+use Rattle.isolation.specs.Calls.{refuses}
+use Rattle.isolation.proofs.Cases.{clash, cond-case}
+use Rattle.isolation.proofs.Refused.{reply-still, reply-words}
+
+-- ---- Refused, it stands still
+
+frame-none : (r : Registers) (t : Transmission) → refuses (sendFrame r t) ≡ false
+frame-none r transmission.Nothing = refl
+frame-none r (transmission.Word word k) = refl
+
+main-none : (c : Channel) (o : ℕ) → refuses (mainHeard c o) ≡ false
+main-none c o =
+    cond-case (λ (a : Answer). refuses a ≡ false) (eqb o 0x28) (λ t. refl)
+    (λ t. cond-case (λ (a : Answer). refuses a ≡ false) (eqb o 0x2a) (λ q. refl) (λ q. refl))
+
+module _ (o : Alone) where
+  -- no refusal but in `refusalOf`; a reply's stands in the answer too, and there it changes nothing
+  effect-still : (k : ChannelCall) → refuses (answer o k) ≡ true → effect o k ≡ o
+  unfolding answer effect life.tickAnswer
+  effect-still (to.writeRegister lent x v) h = clash h
+  effect-still (to.readRegister x) h = clash h
+  effect-still (to.writeSetpoint lent u f i x) h = clash h
+  effect-still to.arm h = clash h
+  effect-still to.disarm h = clash h
+  effect-still (to.reply lent f) h =
+      ap₂ (withReadbacks o) (reply-still (o .channel) (o .m) f h) (reply-words (o .channel) (o .readbacks) (o .m) (o .user) f h)
+  effect-still (to.retired k j) h = refl
+  effect-still (to.retiredLength k j) h = refl
+  effect-still (to.tick lent) h =
+      clash (sym (frame-none (o .channel .registers) (playedOf (o .channel) (o .setpoints) (o .n) (o .user) .transmission)) ∙ h)
+  effect-still (to.event lent x) h = clash h
+  effect-still (to.changeUser u) h = clash h
+  effect-still (to.writeMain lent x v) h = refl
+  effect-still (to.readMain x) h = clash (sym (main-none (o .channel) x) ∙ h)
+
+  pub still : (k : ChannelCall) → refuses (says o k) ≡ true → move o k ≡ o
+  unfolding says move
+  still k h = go (eqb (refusalOf o k) 0) refl
+    where
+      go : (t : Bool) → eqb (refusalOf o k) 0 ≡ t → move o k ≡ o
+      go true e = rw e (effect-still k (rw e at h))
+      go false e = rw e
+
+  -- ---- What a call does
+
+  module _ (k : ℕ) (fit : eqb k (o .m * 8) ≡ true) where
+    pub move-write : (x v : ℕ)
+        → move o (to.writeRegister k x v)
+        ≡ withReadbacks o (chn.writtenOf (o .channel) x v) (chn.writtenWords (o .channel) (o .readbacks) (o .m) x v)
+    unfolding move refusalOf effect chn.writtenOf chn.writtenWords
+    move-write x v = rw fit (go (eqb (registerRefusal x v) 0))
+      where
+        go : (t : Bool)
+            → cond t (withReadbacks o (chn.registerEffect (o .channel) x v) (chn.registerWords (o .channel) (o .readbacks) (o .m) x v)) o
+            ≡ withReadbacks o (cond t (chn.registerEffect (o .channel) x v) (o .channel))
+            (cond t (chn.registerWords (o .channel) (o .readbacks) (o .m) x v) (o .readbacks))
+        go true = refl
+        go false = refl
+
+    pub move-reply : (f : ℕ)
+        → move o (to.reply k f)
+        ≡ withReadbacks o (life.replyOf (o .channel) (o .m) f) (life.replyWords (o .channel) (o .readbacks) (o .m) (o .user) f)
+    unfolding move refusalOf effect life.replyOf life.replyWords
+    move-reply f = rw fit (go (read f))
+      where
+        go : (r : Reading)
+            → cond (eqb (framingRefusal r) 0)
+            (withReadbacks o (replyAs r (o .channel) (o .m)) (replyWordsAs r (o .channel) (o .readbacks) (o .m) (o .user))) o
+            ≡ withReadbacks o (replyAs r (o .channel) (o .m)) (replyWordsAs r (o .channel) (o .readbacks) (o .m) (o .user))
+        go (frame.refused k) = cond-case (λ (a : Alone). a ≡ o) (eqb k 0) (λ t. refl) (λ t. refl)
+        go (frame.fields id word aux crc) = refl
+
+    pub move-event : (x : ℕ)
+        → move o (to.event k x)
+        ≡ withReadbacks o (life.eventOf (o .channel) (o .user) x) (life.eventWords (o .channel) (o .readbacks) (o .m) x)
+    unfolding move refusalOf effect
+    move-event x = rw fit
+
+  module _ (k : ℕ) (fit : eqb k (o .n * 64) ≡ true) where
+    pub move-setpoint : (u f i x : ℕ)
+        → move o (to.writeSetpoint k u f i x) ≡ withSetpoints o (chn.setpointWords (o .channel) (o .setpoints) (o .n) u f i x)
+    unfolding move refusalOf effect chn.setpointWords
+    move-setpoint u f i x = rw fit (go (eqb (setpointRefusal (o .channel) (o .n) u f i) 0) refl)
+      where
+        go : (t : Bool) → eqb (setpointRefusal (o .channel) (o .n) u f i) 0 ≡ t
+            → cond t (withSetpoints o (chn.setpointWords (o .channel) (o .setpoints) (o .n) u f i x)) o
+            ≡ withSetpoints o (chn.setpointWords (o .channel) (o .setpoints) (o .n) u f i x)
+        go true e = refl
+        go false e = rw e
+
+    pub move-tick : move o (to.tick k) ≡ withChannel o (life.tickOf (o .channel) (o .setpoints) (o .n) (o .user))
+    unfolding move refusalOf effect
+    move-tick = rw fit
+
+  pub move-read : (x : ℕ) → move o (to.readRegister x) ≡ withChannel o (chn.readOf (o .channel) x)
+  unfolding move refusalOf effect chn.readOf
+  move-read x = go (eqb (readRefusal (channelAccess x)) 0)
+    where
+      go : (t : Bool)
+          → cond t (withChannel o (chn.readEffect (o .channel) x)) o
+          ≡ withChannel o (cond t (chn.readEffect (o .channel) x) (o .channel))
+      go true = refl
+      go false = refl
+
+  pub move-main : (k x v : ℕ) → move o (to.writeMain k x v) ≡ o
+  unfolding move effect
+  move-main k x v =
+      cond-case (λ (a : Alone). a ≡ o) (eqb (refusalOf o (to.writeMain k x v)) 0) (λ t. refl) (λ t. refl)
+
+  pub move-retired : (k j : ℕ) → (move o (to.retired k j) ≡ o) × (move o (to.retiredLength k j) ≡ o)
+  unfolding move effect
+  move-retired k j = (
+    cond-case (λ (a : Alone). a ≡ o) (eqb (refusalOf o (to.retired k j)) 0) (λ t. refl) (λ t. refl),
+    cond-case (λ (a : Alone). a ≡ o) (eqb (refusalOf o (to.retiredLength k j)) 0) (λ t. refl) (λ t. refl),
+  )
+
+  -- ---- What it answers
+
+  -- 1 comes first
+  fit-first : (k j : ℕ) (q : ℕ) (a : Answer)
+      → unless (then (lengthRefusal k j) q) a ≡ cond (eqb k j) (unless q a) sizeMismatch
+  fit-first k j q a = go (eqb k j)
+    where
+      go : (t : Bool) → unless (then (cond t 0 1) q) a ≡ cond t (unless q a) sizeMismatch
+      go true = refl
+      go false = refl
+
+  pub says-write : (k x v : ℕ) → says o (to.writeRegister k x v) ≡ cond (eqb k (o .m * 8)) (chn.writtenAnswer x v) sizeMismatch
+  unfolding says refusalOf answer chn.writtenAnswer
+  says-write k x v = fit-first k (o .m * 8) (registerRefusal x v) ans.done
+
+  pub says-setpoint : (k u f i x : ℕ)
+      → says o (to.writeSetpoint k u f i x)
+      ≡ cond (eqb k (o .n * 64)) (chn.setpointAnswer (o .channel) (o .n) u f i) sizeMismatch
+  unfolding says refusalOf answer chn.setpointAnswer
+  says-setpoint k u f i x = fit-first k (o .n * 64) (setpointRefusal (o .channel) (o .n) u f i) ans.done
+
+  pub says-reply : (k f : ℕ)
+      → says o (to.reply k f) ≡ cond (eqb k (o .m * 8)) (life.replyAnswer (o .channel) (o .m) f) sizeMismatch
+  unfolding says refusalOf answer life.replyAnswer
+  says-reply k f =
+      fit-first k (o .m * 8) (framingRefusal (read f)) (replyAnswerAs (read f) (o .channel) (o .m))
+      ∙ ap (λ (a : Answer). cond (eqb k (o .m * 8)) a sizeMismatch) (go (read f))
+    where
+      go : (r : Reading) → unless (framingRefusal r) (replyAnswerAs r (o .channel) (o .m)) ≡ replyAnswerAs r (o .channel) (o .m)
+      go (frame.refused k) = cond-case (λ (a : Answer). a ≡ ans.refused k) (eqb k 0) (λ t. refl) (λ t. refl)
+      go (frame.fields id word aux crc) = refl
+
+  pub says-main : (k x v : ℕ)
+      → says o (to.writeMain k x v) ≡ cond (eqb k (o .m * 8)) (unless (writeRefusal (mainAccess x)) ans.done) sizeMismatch
+  unfolding says refusalOf answer
+  says-main k x v = fit-first k (o .m * 8) (writeRefusal (mainAccess x)) ans.done
+
+  pub says-event : (k x : ℕ) → says o (to.event k x) ≡ cond (eqb k (o .m * 8)) ans.done sizeMismatch
+  unfolding says refusalOf answer
+  says-event k x = go (eqb k (o .m * 8))
+    where
+      go : (t : Bool) → unless (cond t 0 1) ans.done ≡ cond t ans.done sizeMismatch
+      go true = refl
+      go false = refl
+
+  pub says-tick : (k : ℕ)
+      → says o (to.tick k)
+      ≡ cond (eqb k (o .n * 64)) (life.tickAnswer (o .channel) (o .setpoints) (o .n) (o .user)) sizeMismatch
+  unfolding says refusalOf answer
+  says-tick k = go (eqb k (o .n * 64))
+    where
+      go : (t : Bool)
+          → unless (cond t 0 1) (life.tickAnswer (o .channel) (o .setpoints) (o .n) (o .user))
+          ≡ cond t (life.tickAnswer (o .channel) (o .setpoints) (o .n) (o .user)) sizeMismatch
+      go true = refl
+      go false = refl
+
+-- ---- The depths stay
+
+pub record Depths (o p : Alone) : Type 0 where
+  pub n : p .n ≡ o .n
+  pub m : p .m ≡ o .m
+
+module _ (o : Alone) where
+  effect-depths : (k : ChannelCall) → Depths o (effect o k)
+  unfolding effect
+  effect-depths (to.writeRegister lent x v) = record { n = refl; m = refl }
+  effect-depths (to.readRegister x) = record { n = refl; m = refl }
+  effect-depths (to.writeSetpoint lent u f i x) = record { n = refl; m = refl }
+  effect-depths to.arm = record { n = refl; m = refl }
+  effect-depths to.disarm = record { n = refl; m = refl }
+  effect-depths (to.reply lent f) = record { n = refl; m = refl }
+  effect-depths (to.retired k j) = record { n = refl; m = refl }
+  effect-depths (to.retiredLength k j) = record { n = refl; m = refl }
+  effect-depths (to.tick lent) = record { n = refl; m = refl }
+  effect-depths (to.event lent x) = record { n = refl; m = refl }
+  effect-depths (to.changeUser u) =
+      cond-case (Depths o) (eqb u (o .user)) (λ t. record { n = refl; m = refl }) (λ t. record { n = refl; m = refl })
+  effect-depths (to.writeMain lent x v) = record { n = refl; m = refl }
+  effect-depths (to.readMain x) = record { n = refl; m = refl }
+
+  move-depths : (k : ChannelCall) → Depths o (move o k)
+  unfolding move
+  move-depths k =
+      cond-case (Depths o) (eqb (refusalOf o k) 0) (λ t. effect-depths k) (λ t. record { n = refl; m = refl })
+
+pub depths : (o : Alone) (ks : List ChannelCall) → Depths o (moves o ks)
+depths o [] = record { n = refl; m = refl }
+depths o (k ∷ ks) =
+    let s : Depths o (move o k) = move-depths o k in
+    let r : Depths (move o k) (moves (move o k) ks) = depths (move o k) ks in
+    record { n = r .n ∙ s .n; m = r .m ∙ s .m }
+
+-- ---- Along two lists
+
+pub moves-append : (o : Alone) (ks js : List ChannelCall) → moves o (ks ++ js) ≡ moves (moves o ks) js
+moves-append o [] js = refl
+moves-append o (k ∷ ks) js = moves-append (move o k) ks js
+
+pub tells-append : (o : Alone) (ks js : List ChannelCall) → tells o (ks ++ js) ≡ tells o ks ++ tells (moves o ks) js
+tells-append o [] js = refl
+tells-append o (k ∷ ks) js = ap (λ (r : List Answer). says o k ∷ r) (tells-append (move o k) ks js)

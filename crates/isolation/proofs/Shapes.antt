@@ -1,0 +1,145 @@
+-- Every call keeps the depths, the four channels and the lengths of both memories. Assumes nothing.
+use Prim.Native.Nat.{ℕ, _*_}
+use mathlib.Core.Path.{_≡_, refl, sym, ap, _∙_}
+use mathlib.Core.List.{List}
+use native.Mathlib.Omega.{arith}
+use lib.ListN.{length, length-set}
+use lib.Dec.{eqb}
+use Rattle.register_map.specs.Addresses.{Named, named, main, channel, nothing}
+use Rattle.register_map.specs.AccessRule.{mainAccess}
+use Rattle.register_map.specs.Verdicts.{readRefusal, writeRefusal}
+use Rattle.life.specs.Life as life
+use Rattle.channel.specs.Calls as chn
+use Rattle.channel.specs.Alone.{userRefusal}
+use Rattle.board_state.specs.declared.Board.{Board}
+use Rattle.board_state.specs.State.{chan}
+use Rattle.board_state.specs.Main.{mainWritten, mainRead, statusRead, takenAt}
+use Rattle.board.specs.Calls.{noChannel, setpointsFit, readbacksFit, writeBoardAt, readBoardAt, eventBoards, eventBoardAt, changedAt}
+use Rattle.board.specs.Calls as bench
+use Rattle.isolation.specs.Calls.{Call, writeRegister, readRegister, writeSetpoint, arm, disarm, reply, retired, retiredLength, tick, event, changeUser, interruptLevel, Lent, first, World, after, wordsAfter}
+use Rattle.isolation.proofs.Cases.{cond-case, named-number}
+use Rattle.isolation.proofs.Words.{over-length, setpoints-over, replies-over, writes-over, written-length, setpoint-length, reply-length}
+use Rattle.isolation.proofs.Worlds.{Good, plain, parted-sets, parted-reads, full-reads}
+use Rattle.isolation.proofs.Events.{good-first}
+
+-- ---- The board
+
+record Shape (b b' : Board) : Type 0 where
+  n : b' .n ≡ b .n
+  m : b' .m ≡ b .m
+  channels : length (b' .channels) ≡ length (b .channels)
+
+module _ (b : Board) where
+  same : Shape b b
+  same = record { n = refl; m = refl; channels = refl }
+
+  write-at : (a : Named) (v : ℕ) → Shape b (writeBoardAt a b v)
+  unfolding mainWritten
+  write-at (main o) v =
+      cond-case (Shape b) (eqb (writeRefusal (mainAccess o)) 0)
+      (λ t. record { n = refl; m = refl; channels = refl })
+      (λ t. same)
+  write-at (channel d o) v = record { n = refl; m = refl; channels = simp length-set }
+  write-at nothing v = same
+
+  read-at : (a : Named) → Shape b (readBoardAt a b)
+  unfolding mainRead statusRead takenAt
+  read-at (main o) =
+      cond-case (Shape b) (eqb (readRefusal (mainAccess o)) 0)
+      (λ t. cond-case (Shape b) (eqb o 0x28)
+      (λ q. record { n = refl; m = refl; channels = simp length-set })
+      (λ q. cond-case (Shape b) (eqb o 0x2a) (λ p. record { n = refl; m = refl; channels = simp length-set }) (λ p. same)))
+      (λ t. same)
+  read-at (channel d o) = record { n = refl; m = refl; channels = simp length-set }
+  read-at nothing = same
+
+  shape : (x : Call) (l : Lent) → Shape b (after b x l)
+  unfolding after bench.writeBoard bench.readBoard bench.armBoard bench.disarmBoard bench.replyBoard bench.tickBoard bench.eventBoard eventBoards eventBoardAt bench.userBoard changedAt
+  shape (writeRegister a v) l =
+      cond-case (Shape b) (readbacksFit b (length (first l))) (λ t. write-at (named a) v) (λ t. same)
+  shape (readRegister a) l = read-at (named a)
+  shape (writeSetpoint d u f i x) l = same
+  shape (arm d) l =
+      cond-case (Shape b) (noChannel d) (λ t. same) (λ t. record { n = refl; m = refl; channels = simp length-set })
+  shape (disarm d) l =
+      cond-case (Shape b) (noChannel d) (λ t. same) (λ t. record { n = refl; m = refl; channels = simp length-set })
+  shape (reply d f) l =
+      cond-case (Shape b) (readbacksFit b (length (first l)))
+      (λ t. cond-case (Shape b) (noChannel d) (λ q. same) (λ q. record { n = refl; m = refl; channels = simp length-set }))
+      (λ t. same)
+  shape (retired d) l = same
+  shape (retiredLength d) l = same
+  shape tick l =
+      cond-case (Shape b) (setpointsFit b (length (first l)))
+      (λ t. record { n = refl; m = refl; channels = simp length-set })
+      (λ t. same)
+  shape (event x) l =
+      cond-case (Shape b) (readbacksFit b (length (first l)))
+      (λ t. record { n = refl; m = refl; channels = simp length-set })
+      (λ t. same)
+  shape (changeUser u) l =
+      cond-case (Shape b) (eqb (userRefusal u) 0)
+      (λ t. cond-case (Shape b) (eqb u (b .user)) (λ q. same) (λ q. record { n = refl; m = refl; channels = simp length-set }))
+      (λ t. same)
+  shape interruptLevel l = same
+
+-- ---- The memories
+
+module _ (b : Board) (s : List ℕ) where
+  write-length : (a v : ℕ) → length (bench.writeWords b s a v) ≡ length s
+  unfolding bench.writeWords
+  write-length a v = go (named a) refl
+    where
+      go : (n : Named) → named a ≡ n → length (bench.writeWords b s a v) ≡ length s
+      go (main o) e = rw e (cond-case (λ (r : List ℕ). length r ≡ length s) (readbacksFit b (length s)) (λ t. refl) (λ t. refl))
+      go (channel d o) e =
+          ap length (writes-over b s d a o v e (named-number a d o e))
+          ∙ over-length s (b .m * 8) (b .m * 2) d (λ (p : List ℕ). chn.writtenWords (chan b d) p (b .m) o v) (parted-reads b)
+          (λ p. written-length (chan b d) p (b .m) o v)
+      go nothing e = rw e (cond-case (λ (r : List ℕ). length r ≡ length s) (readbacksFit b (length s)) (λ t. refl) (λ t. refl))
+
+  setpoints-length : (d u f i x : ℕ) → length (bench.setpointWords b s d u f i x) ≡ length s
+  setpoints-length d u f i x =
+      ap length (setpoints-over b s d u f i x)
+      ∙ over-length s (b .n * 64) (b .n * 16) d (λ (p : List ℕ). chn.setpointWords (chan b d) p (b .n) u f i x) (parted-sets b)
+      (λ p. setpoint-length (chan b d) p (b .n) u f i x)
+
+  replies-length : (d f : ℕ) → length (bench.replyWords b s d f) ≡ length s
+  replies-length d f =
+      ap length (replies-over b s d f)
+      ∙ over-length s (b .m * 8) (b .m * 2) d (λ (p : List ℕ). life.replyWords (chan b d) p (b .m) (b .user) f) (parted-reads b)
+      (λ p. reply-length (chan b d) p (b .m) (b .user) f)
+
+-- ---- So a good world stays good
+
+module _ (w : World) (g : Good w) where
+  good-by : (b : Board) (s r : List ℕ) → Shape (w .board) b → length s ≡ length (w .setpoints) → length r ≡ length (w .readbacks)
+      → Good (record { board = b; setpoints = s; readbacks = r })
+  good-by b s r k p q =
+      record {
+        four = k .channels ∙ g .four;
+        sets = p ∙ g .sets ∙ ap (λ (n : ℕ). n * 64) (sym (k .n));
+        reads = q ∙ g .reads ∙ ap (λ (m : ℕ). m * 8) (sym (k .m));
+      }
+
+  event-kept : (x : ℕ) → length (bench.eventWords (w .board) (w .readbacks) x) ≡ length (w .readbacks)
+  unfolding bench.eventWords eventBoards eventBoardAt
+  event-kept x = rw (full-reads w g) (good-first w g x 4 (omega arith) .reads ∙ sym (g .reads))
+
+  pub good-plain : (x : Call) → Good (plain w x)
+  unfolding wordsAfter
+  good-plain (writeRegister a v) =
+      good-by _ _ _ (shape (w .board) (writeRegister a v) _) refl (write-length (w .board) (w .readbacks) a v)
+  good-plain (readRegister a) = good-by _ _ _ (shape (w .board) (readRegister a) _) refl refl
+  good-plain (writeSetpoint d u f i x) =
+      good-by _ _ _ (shape (w .board) (writeSetpoint d u f i x) _) (setpoints-length (w .board) (w .setpoints) d u f i x) refl
+  good-plain (arm d) = good-by _ _ _ (shape (w .board) (arm d) _) refl refl
+  good-plain (disarm d) = good-by _ _ _ (shape (w .board) (disarm d) _) refl refl
+  good-plain (reply d f) =
+      good-by _ _ _ (shape (w .board) (reply d f) _) refl (replies-length (w .board) (w .readbacks) d f)
+  good-plain (retired d) = good-by _ _ _ (shape (w .board) (retired d) _) refl refl
+  good-plain (retiredLength d) = good-by _ _ _ (shape (w .board) (retiredLength d) _) refl refl
+  good-plain tick = good-by _ _ _ (shape (w .board) tick _) refl refl
+  good-plain (event x) = good-by _ _ _ (shape (w .board) (event x) _) refl (event-kept x)
+  good-plain (changeUser u) = good-by _ _ _ (shape (w .board) (changeUser u) _) refl refl
+  good-plain interruptLevel = good-by _ _ _ (shape (w .board) interruptLevel _) refl refl

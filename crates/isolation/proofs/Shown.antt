@@ -1,0 +1,76 @@
+-- Demand 3 in document 01's words of the end of a list, and lists that it speaks of. Assumes nothing.
+use Prim.Native.Nat.{ℕ, _+_, _*_, _<_}
+use mathlib.Core.Path.{_≡_, refl, sym, ap, subst}
+use mathlib.Core.Logic.{inl, inr}
+use mathlib.Core.Bool.{Bool, true, false}
+use lib.ListN.{length}
+use lib.Dec.{eqb}
+use Rattle.life.specs.Answers.{Answer}
+use Rattle.channel.specs.Calls as chn
+use Rattle.channel.specs.Alone.{Alone, says, moves}
+use Rattle.channel.specs.Alone as to
+use Rattle.board_state.specs.declared.Board.{Board}
+use Rattle.board.specs.Calls.{noChannel, setpointsFit, readAnswer, retiredWords, retiredAnswer, setpointAnswer, tickSaid}
+use Rattle.isolation.specs.Calls.{readRegister, writeSetpoint, tick, Lent, none, words, first, World, answer, refuses, refused, given, last, opening}
+use Rattle.isolation.specs.Feeding.{fed, view}
+use Rattle.isolation.specs.Isolation.{aloneAt, AsAlone, Shows, IsolationShown, astray, NotVacuous}
+use Rattle.isolation.proofs.Parts.{Number}
+use Rattle.isolation.proofs.Cases.{cond-case, named-at}
+use Rattle.isolation.proofs.One.{Depths, depths}
+use Rattle.isolation.proofs.Worlds.{Good, step-refused, full-sets}
+use Rattle.isolation.proofs.Mains.{status-bit}
+use Rattle.isolation.proofs.Hearing.{hear-read}
+use Rattle.isolation.proofs.Isolation.{isolation, good-opening}
+
+module _ (c : ℕ) (h : Number c) (w : World) where
+  register-shown : (o : ℕ) → o < 0x800 → readAnswer (w .board) (0x800 * c + o) ≡ says (view c w) (to.readRegister o)
+  unfolding answer
+  register-shown o l = hear-read w c h (0x800 * c + o) o none (named-at c o h l)
+
+  view-shown : Shows (w .board .n) (w .board .m) c w (view c w)
+  view-shown =
+      record {
+        registers = register-shown;
+        switches = refl;
+        interruptStatus = refl;
+        pollingStatus = refl;
+        mainInterrupt = status-bit (w .board) false c h;
+        mainPolling = status-bit (w .board) true c h;
+        setpoints = refl;
+        readbacks = refl;
+        bothBuffers = refl;
+      }
+
+  shown : (o : Alone) → view c w ≡ o → Shows (o .n) (o .m) c w o
+  shown o e = subst (λ (p : Alone). Shows (p .n) (p .m) c w p) e view-shown
+
+pub isolation-shown : IsolationShown
+isolation-shown n m s r e c low high xs a =
+    let o = moves (aloneAt c n m s r) (fed c xs) in
+    let d : Depths (aloneAt c n m s r) o = depths (aloneAt c n m s r) (fed c xs) in
+    let x : AsAlone c (opening n m s r) xs (aloneAt c n m s r) = isolation n m s r e c low high xs a in
+    subst (λ (k : ℕ). Shows k m c (last (opening n m s r) xs) o) (d .n)
+    (subst (λ (k : ℕ). Shows (o .n) k c (last (opening n m s r) xs) o) (d .m)
+    (shown c (record { low = low; high = high }) (last (opening n m s r) xs) o (x .ends)))
+
+-- ---- There are such lists
+
+astray-refused : (b : Board) (l : Lent) → refused b (writeSetpoint 5 1 1 0 0) l ≡ true
+unfolding answer setpointAnswer
+astray-refused b l =
+    cond-case (λ (a : Answer). refuses a ≡ true) (setpointsFit b (length (first l))) (λ t. refl) (λ t. refl)
+
+tick-answered : (w : World) → Good w → refused (w .board) tick (words (w .setpoints)) ≡ false
+unfolding answer tickSaid
+tick-answered w g = rw (full-sets w g)
+
+pub not-vacuous : NotVacuous
+not-vacuous n m s r foreign e =
+    let w : World = opening n m s r in
+    let q : refused (w .board) (writeSetpoint 5 1 1 0 0) (words foreign) ≡ true = astray-refused (w .board) (words foreign) in (
+      (
+        inl (λ l k. astray-refused (w .board) l),
+        (inr (ap (λ (v : World). given v tick) (sym (step-refused w (astray foreign) q))), tt),
+      ),
+      tick-answered w (good-opening n m s r e),
+    )

@@ -1,0 +1,215 @@
+-- Document 01, 'What holds it to this': the calls on an open board that stand in a list, each with what it is lent, and the world that they run on.
+-- A call's answer, the board after it and the lent words after it are the very definitions that the calls' contracts are equations with.
+use Prim.Native.Nat.{ℕ, _*_}
+use mathlib.Core.Path.{_≡_}
+use mathlib.Core.Logic.{_⊎_}
+use mathlib.Core.List.{List, [], _∷_}
+use mathlib.Core.Bool.{Bool, true, false, cond}
+use lib.ListN.{length, take, drop}
+use Rattle.life.specs.Answers.{Answer}
+use Rattle.life.specs.Answers as ans
+use Rattle.board_state.specs.declared.Board.{Board}
+use Rattle.board_state.specs.Main.{levelOf}
+use Rattle.board.specs.Parts.{own}
+use Rattle.board.specs.Answers.{Said, one, each}
+use Rattle.board.specs.Calls as bench
+
+-- "In the list stand the calls under Calls, the retired call's twin" (`retiredLength`): a call's arguments alone
+pub data Call : Type 0 where
+  writeRegister : (address value : ℕ) → Call
+  readRegister : (address : ℕ) → Call
+  writeSetpoint : (number user buffer index word : ℕ) → Call
+  arm : (number : ℕ) → Call
+  disarm : (number : ℕ) → Call
+  reply : (number frame : ℕ) → Call
+  retired : (number : ℕ) → Call
+  retiredLength : (number : ℕ) → Call
+  tick : Call
+  event : (code : ℕ) → Call
+  changeUser : (user : ℕ) → Call
+  interruptLevel : Call
+
+-- what a call is lent: no words, a memory, or two readback buffers
+pub data Lent : Type 0 where
+  none : Lent
+  words : List ℕ → Lent
+  buffers : (one two : List ℕ) → Lent
+
+pub record Item : Type 0 where
+  pub call : Call
+  pub lent : Lent
+
+-- the board, and both memories as they were left
+pub record World : Type 0 where
+  pub board : Board
+  pub setpoints : List ℕ
+  pub readbacks : List ℕ
+
+-- the memory, or the first buffer; the second buffer
+abbrev pub first : Lent → List ℕ
+first none = []
+first (words s) = s
+first (buffers s t) = s
+
+abbrev pub second : Lent → List ℕ
+second none = []
+second (words s) = []
+second (buffers s t) = t
+
+abbrev pub lengths : Lent → List ℕ
+lengths none = []
+lengths (words s) = length s ∷ []
+lengths (buffers s t) = length s ∷ (length t ∷ [])
+
+-- ---- What the contracts say of a call, refused or not: its answer, the board after it, the lent words after it
+
+unfoldable pub answer : Board → Call → Lent → Said
+answer b (writeRegister address value) l = one (bench.writeAnswer b (length (first l)) address value)
+answer b (readRegister address) l = one (bench.readAnswer b address)
+answer b (writeSetpoint number user buffer index word) l =
+    one (bench.setpointAnswer b (length (first l)) number user buffer index)
+answer b (arm number) l = one (bench.armAnswer number)
+answer b (disarm number) l = one (bench.armAnswer number)
+answer b (reply number frame) l = one (bench.replyAnswer b (length (first l)) number frame)
+answer b (retired number) l = one (bench.retiredAnswer b number (first l) (second l))
+answer b (retiredLength number) l = one (bench.retiredLength b number (first l) (second l))
+answer b tick l = bench.tickSaid b (first l)
+answer b (event code) l = one (bench.eventAnswer b (length (first l)))
+answer b (changeUser user) l = one (bench.userAnswer user)
+answer b interruptLevel l = one (ans.value (levelOf b))
+
+unfoldable pub after : Board → Call → Lent → Board
+after b (writeRegister address value) l = bench.writeBoard b (length (first l)) address value
+after b (readRegister address) l = bench.readBoard b address
+after b (writeSetpoint number user buffer index word) l = b
+after b (arm number) l = bench.armBoard b number
+after b (disarm number) l = bench.disarmBoard b number
+after b (reply number frame) l = bench.replyBoard b (length (first l)) number frame
+after b (retired number) l = b
+after b (retiredLength number) l = b
+after b tick l = bench.tickBoard b (first l)
+after b (event code) l = bench.eventBoard b (length (first l)) code
+after b (changeUser user) l = bench.userBoard b user
+after b interruptLevel l = b
+
+-- a memory after the call that it was lent to. Register write, setpoint write, reply and event may change it
+unfoldable pub wordsAfter : Board → Call → List ℕ → List ℕ
+wordsAfter b (writeRegister address value) s = bench.writeWords b s address value
+wordsAfter b (readRegister address) s = s
+wordsAfter b (writeSetpoint number user buffer index word) s = bench.setpointWords b s number user buffer index word
+wordsAfter b (arm number) s = s
+wordsAfter b (disarm number) s = s
+wordsAfter b (reply number frame) s = bench.replyWords b s number frame
+wordsAfter b (retired number) s = s
+wordsAfter b (retiredLength number) s = s
+wordsAfter b tick s = s
+wordsAfter b (event code) s = bench.eventWords b s code
+wordsAfter b (changeUser user) s = s
+wordsAfter b interruptLevel s = s
+
+abbrev pub left : Board → Call → Lent → Lent
+left b x none = none
+left b x (words s) = words (wordsAfter b x s)
+left b x (buffers s t) = buffers s t
+
+-- ---- Refusals
+
+abbrev pub refuses : Answer → Bool
+refuses (ans.refused k) = true
+refuses ans.done = false
+refuses (ans.value v) = false
+refuses (ans.bit t) = false
+refuses (ans.frame f) = false
+refuses ans.none = false
+refuses ans.kept = false
+refuses ans.lost = false
+refuses ans.unsolicited = false
+refuses (ans.part s) = false
+refuses (ans.partLength k) = false
+
+abbrev pub refusesSaid : Said → Bool
+refusesSaid (one a) = refuses a
+refusesSaid (each f g h k) = false
+
+abbrev pub refused : Board → Call → Lent → Bool
+refused b x l = refusesSaid (answer b x l)
+
+-- ---- One call
+
+-- "buffers 1 and 2 of its channel"
+abbrev pub ownBuffers : World → ℕ → Lent
+ownBuffers w number =
+    buffers (take (w .board .m) (own (w .readbacks) (w .board .m * 2) number))
+    (take (w .board .m) (drop (w .board .m) (own (w .readbacks) (w .board .m * 2) number)))
+
+-- what a call that is not refused is lent: the memory as the opening and the unrefused calls before it left it
+abbrev pub given : World → Call → Lent
+given w (writeRegister address value) = words (w .readbacks)
+given w (readRegister address) = none
+given w (writeSetpoint number user buffer index word) = words (w .setpoints)
+given w (arm number) = none
+given w (disarm number) = none
+given w (reply number frame) = words (w .readbacks)
+given w (retired number) = ownBuffers w number
+given w (retiredLength number) = ownBuffers w number
+given w tick = words (w .setpoints)
+given w (event code) = words (w .readbacks)
+given w (changeUser user) = none
+given w interruptLevel = none
+
+abbrev pub withBoard : World → Board → World
+withBoard w b = record { board = b; setpoints = w .setpoints; readbacks = w .readbacks }
+
+abbrev pub withSetpoints : World → Board → List ℕ → World
+withSetpoints w b s = record { board = b; setpoints = s; readbacks = w .readbacks }
+
+abbrev pub withReadbacks : World → Board → List ℕ → World
+withReadbacks w b s = record { board = b; setpoints = w .setpoints; readbacks = s }
+
+-- the world with this board, and with the lent memory come back
+abbrev pub back : World → Call → Board → Lent → World
+back w (writeRegister address value) b l = withReadbacks w b (first l)
+back w (readRegister address) b l = withBoard w b
+back w (writeSetpoint number user buffer index word) b l = withSetpoints w b (first l)
+back w (arm number) b l = withBoard w b
+back w (disarm number) b l = withBoard w b
+back w (reply number frame) b l = withReadbacks w b (first l)
+back w (retired number) b l = withBoard w b
+back w (retiredLength number) b l = withBoard w b
+back w tick b l = withSetpoints w b (first l)
+back w (event code) b l = withReadbacks w b (first l)
+back w (changeUser user) b l = withBoard w b
+back w interruptLevel b l = withBoard w b
+
+-- the board by the contract always; the memory by the contract, or where the call is refused as it was: what is lent to a refused call is
+-- no memory of the world
+unfoldable pub step : World → Item → World
+step w i =
+    cond (refused (w .board) (i .call) (i .lent))
+    (withBoard w (after (w .board) (i .call) (i .lent)))
+    (back w (i .call) (after (w .board) (i .call) (i .lent)) (left (w .board) (i .call) (i .lent)))
+
+-- ---- Lists of calls
+
+-- "A call that is refused whatever words stand in what it is lent .. may be lent anything"; any other is lent the memory
+abbrev pub Fits : World → Item → Type 0
+Fits w i =
+    ((l : Lent) → lengths l ≡ lengths (i .lent) → refused (w .board) (i .call) l ≡ true) ⊎ (i .lent ≡ given w (i .call))
+
+abbrev pub Allowed : World → List Item → Type 0
+Allowed w [] = Unit {0}
+Allowed w (i ∷ is) = Fits w i × Allowed (step w i) is
+
+-- the world after a list
+abbrev pub last : World → List Item → World
+last w [] = w
+last w (i ∷ is) = last (step w i) is
+
+-- the world of an opening: "Opening leaves lent words as they are"
+abbrev pub opening : ℕ → ℕ → List ℕ → List ℕ → World
+opening n m setpoints readbacks =
+    record {
+      board = bench.openBoard n m (length setpoints) (length readbacks);
+      setpoints = setpoints;
+      readbacks = readbacks;
+    }

@@ -1,0 +1,160 @@
+-- Document 01, 'What holds it to this': what a channel is fed of a call, what it hears of the answer, and what of the world is its own.
+use Prim.Native.Nat.{ℕ, zero, suc, _+_, _*_}
+use mathlib.Core.List.{List, [], _∷_, _++_}
+use mathlib.Core.Bool.{Bool, true, false, cond, _||_}
+use lib.ListN.{length}
+use lib.Dec.{eqb}
+use Rattle.status.specs.Bits.{bitAt}
+use Rattle.register_map.specs.Addresses.{Named, named, main, channel, nothing}
+use Rattle.life.specs.Answers.{Answer}
+use Rattle.life.specs.Answers as ans
+use Rattle.channel.specs.Alone.{Alone, ChannelCall}
+use Rattle.channel.specs.Alone as to
+use Rattle.board_state.specs.State.{chan}
+use Rattle.board.specs.Parts.{own}
+use Rattle.board.specs.Answers.{Said, one, each}
+use Rattle.isolation.specs.Calls.{Call, writeRegister, readRegister, writeSetpoint, arm, disarm, reply, retired, retiredLength, tick, event, changeUser, interruptLevel, first, second, Item, World, answer, refuses, step}
+
+-- one, or none
+abbrev pub only : {A : Type 0} → Bool → A → List A
+only true a = a ∷ []
+only false a = []
+
+-- ---- Which calls name a channel
+
+-- "A register call names the channel in whose 0800h its address falls"
+abbrev pub namesAt : Named → ℕ → Bool
+namesAt (main offset) c = false
+namesAt (channel number offset) c = eqb number c
+namesAt nothing c = false
+
+-- "Naming a channel: register write, register read, setpoint write, arm, disarm, reply, retired readbacks."
+abbrev pub names : Call → ℕ → Bool
+names (writeRegister address value) c = namesAt (named address) c
+names (readRegister address) c = namesAt (named address) c
+names (writeSetpoint number user buffer index word) c = eqb number c
+names (arm number) c = eqb number c
+names (disarm number) c = eqb number c
+names (reply number frame) c = eqb number c
+names (retired number) c = eqb number c
+names (retiredLength number) c = eqb number c
+names tick c = false
+names (event code) c = false
+names (changeUser user) c = false
+names interruptLevel c = false
+
+-- ---- What channel c is fed: "calls with their arguments and lent lengths, never the board's answers or state"
+
+-- a Main use is shared; an address from 2800h up "names no channel and .. is fed to none"
+abbrev pub feedWrite : ℕ → Named → (lent value : ℕ) → List ChannelCall
+feedWrite c (main offset) lent value = to.writeMain lent offset value ∷ []
+feedWrite c (channel number offset) lent value = only (eqb number c) (to.writeRegister lent offset value)
+feedWrite c nothing lent value = []
+
+abbrev pub feedRead : ℕ → Named → List ChannelCall
+feedRead c (main offset) = to.readMain offset ∷ []
+feedRead c (channel number offset) = only (eqb number c) (to.readRegister offset)
+feedRead c nothing = []
+
+-- `k` and `j` are the lengths of what the call is lent. A call naming another channel, or none, feeds nothing; a shared one feeds all four
+abbrev pub feed : ℕ → Call → (k j : ℕ) → List ChannelCall
+feed c (writeRegister address value) k j = feedWrite c (named address) k value
+feed c (readRegister address) k j = feedRead c (named address)
+feed c (writeSetpoint number user buffer index word) k j =
+    only (eqb number c) (to.writeSetpoint k user buffer index word)
+feed c (arm number) k j = only (eqb number c) to.arm
+feed c (disarm number) k j = only (eqb number c) to.disarm
+feed c (reply number frame) k j = only (eqb number c) (to.reply k frame)
+feed c (retired number) k j = only (eqb number c) (to.retired k j)
+feed c (retiredLength number) k j = only (eqb number c) (to.retiredLength k j)
+feed c tick k j = to.tick k ∷ []
+feed c (event code) k j = to.event k code ∷ []
+feed c (changeUser user) k j = to.changeUser user ∷ []
+feed c interruptLevel k j = []
+
+abbrev pub feeds : ℕ → Item → List ChannelCall
+feeds c i = feed c (i .call) (length (first (i .lent))) (length (second (i .lent)))
+
+-- ---- What channel c hears
+
+abbrev pub ofFour : {A : Type 0} → ℕ → A → A → A → A → A
+ofFour zero f g h k = f
+ofFour (suc zero) f g h k = f
+ofFour (suc (suc zero)) f g h k = g
+ofFour (suc (suc (suc zero))) f g h k = h
+ofFour (suc (suc (suc (suc c)))) f g h k = k
+
+-- an answer, or of a tick's this channel's: its "frame or none"
+abbrev pub said : ℕ → Said → Answer
+said c (one a) = a
+said c (each f g h k) = ofFour c f g h k
+
+-- "for a shared call, the number if refused"; of any other answer nothing is compared
+abbrev pub shared : Answer → Answer
+shared a = cond (refuses a) a ans.done
+
+abbrev pub valueOf : Answer → ℕ
+valueOf (ans.refused k) = 0
+valueOf ans.done = 0
+valueOf (ans.value v) = v
+valueOf (ans.bit t) = 0
+valueOf (ans.frame f) = 0
+valueOf ans.none = 0
+valueOf ans.kept = 0
+valueOf ans.lost = 0
+valueOf ans.unsolicited = 0
+valueOf (ans.part s) = 0
+valueOf (ans.partLength k) = 0
+
+-- "and its bit when 28 or 2A is read": "D7–D4 channels 4–1"
+abbrev pub sharedRead : ℕ → ℕ → Answer → Answer
+sharedRead c offset a =
+    cond (refuses a) a (cond (eqb offset 0x28 || eqb offset 0x2a) (ans.bit (bitAt (valueOf a) (3 + c))) ans.done)
+
+abbrev pub hearWrite : ℕ → Named → Answer → List Answer
+hearWrite c (main offset) a = shared a ∷ []
+hearWrite c (channel number offset) a = only (eqb number c) a
+hearWrite c nothing a = []
+
+abbrev pub hearRead : ℕ → Named → Answer → List Answer
+hearRead c (main offset) a = sharedRead c offset a ∷ []
+hearRead c (channel number offset) a = only (eqb number c) a
+hearRead c nothing a = []
+
+-- "for a call naming the channel, the answer, be it a refusal's number or a part's words in order"
+abbrev pub hear : ℕ → Call → Said → List Answer
+hear c (writeRegister address value) s = hearWrite c (named address) (said c s)
+hear c (readRegister address) s = hearRead c (named address) (said c s)
+hear c (writeSetpoint number user buffer index word) s = only (eqb number c) (said c s)
+hear c (arm number) s = only (eqb number c) (said c s)
+hear c (disarm number) s = only (eqb number c) (said c s)
+hear c (reply number frame) s = only (eqb number c) (said c s)
+hear c (retired number) s = only (eqb number c) (said c s)
+hear c (retiredLength number) s = only (eqb number c) (said c s)
+hear c tick s = said c s ∷ []
+hear c (event code) s = shared (said c s) ∷ []
+hear c (changeUser user) s = shared (said c s) ∷ []
+hear c interruptLevel s = []
+
+-- ---- What of the world is channel c's: all that the one-channel definition holds
+
+abbrev pub view : ℕ → World → Alone
+view c w =
+    record {
+      n = w .board .n;
+      m = w .board .m;
+      user = w .board .user;
+      channel = chan (w .board) c;
+      setpoints = own (w .setpoints) (w .board .n * 16) c;
+      readbacks = own (w .readbacks) (w .board .m * 2) c;
+    }
+
+-- ---- Along a list
+
+abbrev pub fed : ℕ → List Item → List ChannelCall
+fed c [] = []
+fed c (i ∷ is) = feeds c i ++ fed c is
+
+abbrev pub hears : ℕ → World → List Item → List Answer
+hears c w [] = []
+hears c w (i ∷ is) = hear c (i .call) (answer (w .board) (i .call) (i .lent)) ++ hears c (step w i) is

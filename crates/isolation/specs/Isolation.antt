@@ -1,0 +1,118 @@
+-- Demand 3, "each channel behaves as it would alone": the claim, by document 01, 'What holds it to this', and what stands beside it.
+-- Proofs: Isolation and FedTheSame in proofs/Isolation.antt, IsolationShown and NotVacuous in Shown, DefaultsUnused in Defaults, the others in Refused and Others.
+use Prim.Native.Nat.{ℕ, _+_, _*_, _<_, _≤_}
+use mathlib.Core.Path.{_≡_}
+use mathlib.Core.Bool.{true, false}
+use mathlib.Core.List.{List, [], _∷_}
+use lib.ListN.{length}
+use Rattle.status.specs.Bits.{bitAt}
+use Rattle.life.specs.Answers as ans
+use Rattle.channel.specs.Calls.{mainBit}
+use Rattle.channel.specs.Alone.{Alone, alone, says, moves, tells, bufferOne, bufferTwo}
+use Rattle.channel.specs.Alone as to
+use Rattle.histories.specs.Ranges.{InRange}
+use Rattle.board_state.specs.declared.Board.{Board}
+use Rattle.board_state.specs.State.{chan}
+use Rattle.board_state.specs.Main.{mainStatus}
+use Rattle.board.specs.Parts.{own}
+use Rattle.board.specs.Calls.{openAnswer, readAnswer}
+use Rattle.isolation.specs.Calls.{Call, writeSetpoint, tick, Lent, words, buffers, Item, World, after, left, refused, ownBuffers, step, Fits, Allowed, last, opening}
+use Rattle.isolation.specs.Feeding.{names, feeds, fed, hears, view}
+
+-- one channel by itself, opened with the same depths and its own part of the words
+abbrev pub aloneAt : ℕ → ℕ → ℕ → List ℕ → List ℕ → Alone
+aloneAt c n m setpoints readbacks = alone n m (own setpoints (n * 16) c) (own readbacks (m * 2) c)
+
+-- along a list: what channel c hears is what the one-channel definition says, fed what c is fed; and it ends as that does
+pub record AsAlone (c : ℕ) (w : World) (xs : List Item) (o : Alone) : Type 0 where
+  pub heard : hears c w xs ≡ tells o (fed c xs)
+  pub ends : view c (last w xs) ≡ moves o (fed c xs)
+
+-- THE CLAIM. "It is one claim about the whole list of calls, not one for each call." "It starts at an opening that wasn't refused."
+abbrev pub Isolation : Type 0
+Isolation =
+    (n m : ℕ) (s r : List ℕ)
+    → openAnswer n m (length s) (length r) ≡ ans.done
+    → (c : ℕ) → 1 ≤ c → c ≤ 4
+    → (xs : List Item) → Allowed (opening n m s r) xs
+    → AsAlone c (opening n m s r) xs (aloneAt c n m s r)
+
+-- ---- The same of the end, in document 01's words: "after the list, what its registers hold, both statuses too, both Main bits, its setpoint
+-- words and both readback buffers in full"
+
+pub record Shows (n m c : ℕ) (w : World) (o : Alone) : Type 0 where
+  -- every register, and every other offset, as a read on the board would answer
+  pub registers : (offset : ℕ) → offset < 0x800 → readAnswer (w .board) (0x800 * c + offset) ≡ says o (to.readRegister offset)
+  -- the switch bits, which no read shows
+  pub switches : chan (w .board) c .registers .switches ≡ o .channel .registers .switches
+  -- both statuses
+  pub interruptStatus : chan (w .board) c .status .interrupt .bits ≡ o .channel .status .interrupt .bits
+  pub pollingStatus : chan (w .board) c .status .polling .bits ≡ o .channel .status .polling .bits
+  -- its bit in 28 and in 2A: "D7–D4 channels 4–1"
+  pub mainInterrupt : bitAt (mainStatus (w .board) false) (3 + c) ≡ mainBit (o .channel) false
+  pub mainPolling : bitAt (mainStatus (w .board) true) (3 + c) ≡ mainBit (o .channel) true
+  -- its words
+  pub setpoints : own (w .setpoints) (n * 16) c ≡ o .setpoints
+  pub readbacks : own (w .readbacks) (m * 2) c ≡ o .readbacks
+  pub bothBuffers : ownBuffers w c ≡ buffers (bufferOne o) (bufferTwo o)
+
+abbrev pub IsolationShown : Type 0
+IsolationShown =
+    (n m : ℕ) (s r : List ℕ)
+    → openAnswer n m (length s) (length r) ≡ ans.done
+    → (c : ℕ) → 1 ≤ c → c ≤ 4
+    → (xs : List Item) → Allowed (opening n m s r) xs
+    → Shows n m c (last (opening n m s r) xs) (moves (aloneAt c n m s r) (fed c xs))
+
+-- ---- Beside it
+
+-- a refused call changes no state and no lent word: on any board, lent anything
+abbrev pub RefusedChangesNothing : Type 0
+RefusedChangesNothing =
+    (b : Board) (x : Call) (l : Lent) → refused b x l ≡ true → (after b x l ≡ b) × (left b x l ≡ l)
+
+-- a call naming d changes nothing that another channel can see: in any world
+abbrev pub OthersUntouched : Type 0
+OthersUntouched =
+    (w : World) (i : Item) → Fits w i
+    → (c : ℕ) → 1 ≤ c → c ≤ 4
+    → (d : ℕ) → names (i .call) d ≡ true → (c ≡ d → ⊥)
+    → view c (step w i) ≡ view c w
+
+-- nor does a call that feeds c nothing: one with an address from 2800h up, or the interrupt level
+abbrev pub UnfedUntouched : Type 0
+UnfedUntouched =
+    (w : World) (i : Item) → Fits w i → (c : ℕ) → 1 ≤ c → c ≤ 4 → feeds c i ≡ [] → view c (step w i) ≡ view c w
+
+-- two allowed lists that feed c the same give it the same answers and the same end, on two boards of the same depths on which c's words are the same
+abbrev pub FedTheSame : Type 0
+FedTheSame =
+    (n m : ℕ) (s r s' r' : List ℕ)
+    → openAnswer n m (length s) (length r) ≡ ans.done → openAnswer n m (length s') (length r') ≡ ans.done
+    → (c : ℕ) → 1 ≤ c → c ≤ 4
+    → own s (n * 16) c ≡ own s' (n * 16) c → own r (m * 2) c ≡ own r' (m * 2) c
+    → (xs ys : List Item) → Allowed (opening n m s r) xs → Allowed (opening n m s' r') ys
+    → fed c xs ≡ fed c ys
+    → (hears c (opening n m s r) xs ≡ hears c (opening n m s' r') ys)
+    × (view c (last (opening n m s r) xs) ≡ view c (last (opening n m s' r') ys))
+
+-- the defaults of the total definitions are never used: from an opening, over any allowed list, each channel's indices, counts, countdowns and
+-- arrays are in their ranges (`InRange`: index due below N, stored counts at most M, user 1 to 8, a running countdown at least 1, ..)
+abbrev pub DefaultsUnused : Type 0
+DefaultsUnused =
+    (n m : ℕ) (s r : List ℕ)
+    → openAnswer n m (length s) (length r) ≡ ans.done
+    → (c : ℕ) → 1 ≤ c → c ≤ 4
+    → (xs : List Item) → Allowed (opening n m s r) xs
+    → InRange (view c (last (opening n m s r) xs))
+
+-- there are such lists: a setpoint write to channel 5, which is lent any words at all and refused, then a tick, which is not
+abbrev pub astray : List ℕ → Item
+astray foreign = record { call = writeSetpoint 5 1 1 0 0; lent = words foreign }
+
+abbrev pub NotVacuous : Type 0
+NotVacuous =
+    (n m : ℕ) (s r foreign : List ℕ)
+    → openAnswer n m (length s) (length r) ≡ ans.done
+    → Allowed (opening n m s r) (astray foreign ∷ (record { call = tick; lent = words s } ∷ []))
+    × (refused (opening n m s r .board) tick (words s) ≡ false)

@@ -1,0 +1,132 @@
+-- A write to Commands and an event, lent the right length, by their parts: Group End, Start, resumes. Assumes nothing.
+use Prim.Native.Nat.{ℕ, _*_}
+use mathlib.Core.Path.{_≡_, refl, ap, _∙_}
+use mathlib.Core.Bool.{Bool, true, false, cond}
+use native.Mathlib.Omega.{arith}
+use borrow.Author.Tests.{eq-eqb}
+use Rattle.register_map.specs.AccessRule.{channelAccess}
+use Rattle.status.specs.Bits.{bitAt}
+use Rattle.status.specs.Latching.{run}
+use Rattle.registers.specs.declared.Registers.{Registers}
+use Rattle.registers.specs.Map.{triggersOf, delayOf, startEvent, groupEndEvent}
+use Rattle.sequencer.specs.declared.Stage.the-variants as stage
+use Rattle.sequencer.specs.Playing.{isIdle}
+use Rattle.sequencer.specs.Playing as seq
+use Rattle.sequencer.proofs.Moves.{resume-ignored}
+use Rattle.life.specs.declared.Channel.{Channel}
+use Rattle.life.specs.State.{withSequencer, happened}
+use Rattle.life.specs.Life.{started, groupEnded, endedIf, startedIf, resumedIf, resumedOn, eventOf, eventWords, commanded, commandWords}
+use Rattle.channel.specs.Calls.{registerRefusal, registerEffect, registerWords}
+use Rattle.channel.specs.Alone.{Alone, refusalOf, effect, move, withReadbacks}
+use Rattle.timing.specs.Timing.{command, eventCall}
+
+pub clash : {A : Type 0} → true ≡ false → A
+clash e = absurd (let z : _≡_ {A = ℕ} 0 1 = cc in omega arith)
+
+pub command-move : (o : Alone) (value : ℕ)
+    → move o (command o value)
+    ≡ withReadbacks o (commanded (o .channel) value) (commandWords (o .channel) (o .readbacks) (o .m) value)
+unfolding move refusalOf effect registerRefusal registerEffect registerWords channelAccess
+command-move o value = rw (eq-eqb (o .m * 8) (o .m * 8) refl)
+
+pub event-move : (o : Alone) (code : ℕ)
+    → move o (eventCall o code)
+    ≡ withReadbacks o (eventOf (o .channel) (o .user) code) (eventWords (o .channel) (o .readbacks) (o .m) code)
+unfolding move refusalOf effect
+event-move o code = rw (eq-eqb (o .m * 8) (o .m * 8) refl)
+
+-- ---- Resumes
+
+-- a resume that does not act, or is not for the stage
+pub resume-nothing : (on : Bool) (c : Channel) (k delay : ℕ) → (c .sequencer .stage ≡ stage.Paused k → on ≡ false)
+    → resumedIf on c k delay ≡ c
+unfolding resumedIf
+resume-nothing true c k delay h = ap (withSequencer c) (resume-ignored (c .sequencer) k delay (λ e. clash (h e)))
+resume-nothing false c k delay h = refl
+
+pub resumes-nothing : (r : Registers) (c : Channel) (user code : ℕ)
+    → ((k : ℕ) → c .sequencer .stage ≡ stage.Paused k → triggersOf r k code ≡ false) → resumedOn r c user code ≡ c
+unfolding resumedOn
+resumes-nothing r c user code h =
+    rw (resume-nothing (triggersOf r 1 code) c 1 (delayOf r 1 user) (h 1))
+    (rw (resume-nothing (triggersOf r 2 code) c 2 (delayOf r 2 user) (h 2))
+    (rw (resume-nothing (triggersOf r 3 code) c 3 (delayOf r 3 user) (h 3))
+    (resume-nothing (triggersOf r 4 code) c 4 (delayOf r 4 user) (h 4))))
+
+-- ---- Start
+
+pub ended-armed : (on : Bool) (c : Channel) → endedIf on c .sequencer .armed ≡ c .sequencer .armed
+unfolding endedIf groupEnded seq.groupEnded
+ended-armed true c = refl
+ended-armed false c = refl
+
+started-sequencer : (c : Channel) (delay : ℕ) → c .sequencer .armed ≡ true
+    → started c delay .sequencer ≡ seq.started (c .sequencer) delay
+unfolding started
+started-sequencer c delay h = rw h
+
+started-stage : (c : Channel) (delay : ℕ) → c .sequencer .armed ≡ true → started c delay .sequencer .stage ≡ stage.Starting
+unfolding seq.started
+started-stage c delay h = ap (λ s. s .stage) (started-sequencer c delay h)
+
+not-starting : (c : Channel) (delay : ℕ) → c .sequencer .armed ≡ true
+    → (on : Bool) (k : ℕ) → started c delay .sequencer .stage ≡ stage.Paused k → on ≡ false
+not-starting c delay h on k e = absurd (let s = started-stage c delay h in let z : _≡_ {A = ℕ} 0 1 = cc in omega arith)
+
+-- a command with D0, or an event that starts, of an armed channel: resumes find no pause, and the sequencer is started
+pub command-starts : (c : Channel) (value : ℕ) → c .sequencer .armed ≡ true → bitAt value 0 ≡ true
+    → commanded c value .sequencer ≡ seq.started (endedIf (bitAt value 2) c .sequencer) 0
+unfolding commanded startedIf
+command-starts c value armed on =
+    let e = endedIf (bitAt value 2) c in
+    let a : e .sequencer .armed ≡ true = ended-armed (bitAt value 2) c ∙ armed in
+    rw on
+    (ap (λ (x : Channel). x .sequencer) (resume-nothing (bitAt value 1) (started e 0) 0 0 (not-starting e 0 a (bitAt value 1) 0))
+    ∙ started-sequencer e 0 a)
+
+pub event-starts : (c : Channel) (user code : ℕ) → c .sequencer .armed ≡ true
+    → triggersOf (c .registers) startEvent code ≡ true
+    → eventOf c user code .sequencer
+    ≡ seq.started (endedIf (triggersOf (c .registers) groupEndEvent code) c .sequencer) (delayOf (c .registers) 0 user)
+unfolding eventOf startedIf
+event-starts c user code armed on =
+    let r = c .registers in
+    let e = endedIf (triggersOf r groupEndEvent code) c in
+    let d = delayOf r 0 user in
+    let a : e .sequencer .armed ≡ true = ended-armed (triggersOf r groupEndEvent code) c ∙ armed in
+    rw on
+    (ap (λ (x : Channel). x .sequencer)
+    (resumes-nothing r (started e d) user code (λ k. not-starting e d a (triggersOf r k code) k))
+    ∙ started-sequencer e d a)
+
+-- ---- What Start and resumes leave
+
+started-registers : (c : Channel) (delay : ℕ) (armed idle : Bool)
+    → cond armed (withSequencer (cond idle (happened c run) c) (seq.started (c .sequencer) delay)) c .registers ≡ c .registers
+started-registers c delay true true = refl
+started-registers c delay true false = refl
+started-registers c delay false idle = refl
+
+pub starts-registers : (on : Bool) (c : Channel) (delay : ℕ) → startedIf on c delay .registers ≡ c .registers
+unfolding startedIf started
+starts-registers true c delay = started-registers c delay (c .sequencer .armed) (isIdle (c .sequencer .stage))
+starts-registers false c delay = refl
+
+pub resume-registers : (on : Bool) (c : Channel) (k delay : ℕ) → resumedIf on c k delay .registers ≡ c .registers
+unfolding resumedIf
+resume-registers true c k delay = refl
+resume-registers false c k delay = refl
+
+pub resumes-registers : (r : Registers) (c : Channel) (user code : ℕ) → resumedOn r c user code .registers ≡ c .registers
+unfolding resumedOn
+resumes-registers r c user code = simp resume-registers
+
+-- with no Group End the registers stay
+pub command-registers : (c : Channel) (value : ℕ) → bitAt value 2 ≡ false → commanded c value .registers ≡ c .registers
+unfolding commanded endedIf
+command-registers c value off = rw off (simp (resume-registers, starts-registers))
+
+pub event-registers : (c : Channel) (user code : ℕ) → triggersOf (c .registers) groupEndEvent code ≡ false
+    → eventOf c user code .registers ≡ c .registers
+unfolding eventOf endedIf
+event-registers c user code off = rw off (simp (resumes-registers, starts-registers))

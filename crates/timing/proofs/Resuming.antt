@@ -1,0 +1,182 @@
+-- Resume: which one is taken, which changes nothing, and what ticks answer after it. Assumes nothing.
+use Prim.Native.Nat.{ℕ, zero, suc, _+_, _-_, _≤_, _<_}
+use mathlib.Core.Path.{_≡_, refl, sym, ap, subst, _∙_}
+use mathlib.Core.Bool.{Bool, true, false, cond}
+use native.Mathlib.Omega.{arith}
+use lib.Dec.{leb}
+use borrow.Author.Tests.{lt-leb}
+use Rattle.status.specs.Bits.{bitAt}
+use Rattle.registers.specs.declared.Registers.{Registers}
+use Rattle.registers.specs.Map.{triggersOf, delayOf}
+use Rattle.sequencer.specs.declared.Stage.{Stage}
+use Rattle.sequencer.specs.declared.Stage.the-variants as stage
+use Rattle.sequencer.specs.declared.Sequencer.{Sequencer}
+use Rattle.sequencer.specs.declared.Ticked.{Ticked}
+use Rattle.sequencer.specs.Playing.{resumed, loadedResume, withResume, quiet, repeating, resuming, sentNext, ticked, tickedAt}
+use Rattle.sequencer.specs.Runs.{next, ticks}
+use Rattle.sequencer.proofs.Steps.{repeating-same}
+use Rattle.sequencer.proofs.Laws as laws
+use Rattle.sequencer.proofs.Moves.{resume-taken}
+use Rattle.life.specs.declared.Channel.{Channel}
+use Rattle.life.specs.State.{withSequencer}
+use Rattle.life.specs.Life.{sendFrame, endedIf, endedWords, startedIf, resumedIf, resumedOn, eventOf, eventWords, commanded, commandWords}
+use Rattle.channel.specs.Alone.{Alone, move, withChannel}
+use Rattle.timing.specs.Ticking.{wordAt, period, Resumes}
+use Rattle.timing.specs.Timing.{command, eventCall, hears, delay, OnlyResumes, OnlyD1}
+use Rattle.timing.specs.Timing as the
+use Rattle.timing.proofs.Bridge.{after-with, on-tick, sent-after, repeat}
+use Rattle.timing.proofs.Calls.{command-move, event-move, resume-nothing, resumes-nothing}
+use Rattle.timing.proofs.Series.{period-some}
+
+-- ---- An event or command that resumes alone
+
+event-resumes : (o : Alone) (code : ℕ) → OnlyResumes o code
+    → move o (eventCall o code) ≡ withChannel o (resumedOn (o .channel .registers) (o .channel) (o .user) code)
+unfolding eventOf eventWords endedIf endedWords startedIf
+event-resumes o code only = event-move o code ∙ rw (only .0) (rw (only .1))
+
+command-resumes : (o : Alone) (value : ℕ) → OnlyD1 value
+    → move o (command o value) ≡ withChannel o (resumedIf (bitAt value 1) (o .channel) 0 0)
+unfolding commanded commandWords endedIf endedWords startedIf
+command-resumes o value only = command-move o value ∙ rw (only .0) (rw (only .1))
+
+-- ---- Resumes that change nothing
+
+-- two stages that a resume tells apart
+apart : {A : Type 0} {g : Stage} (j k : ℕ) → g ≡ stage.Paused j → g ≡ stage.Paused k → (j ≡ k → ⊥) → A
+apart j k a b differ = absurd (differ (cc))
+
+not-resuming : {A : Type 0} {g : Stage} (k : ℕ) → g ≡ stage.Resuming → g ≡ stage.Paused k → A
+not-resuming k a b = absurd (let z : _≡_ {A = ℕ} 0 1 = cc in omega arith)
+
+ignored : (o : Alone) (code : ℕ) → OnlyResumes o code
+    → ((k : ℕ) → o .channel .sequencer .stage ≡ stage.Paused k → hears o k code ≡ false)
+    → move o (eventCall o code) ≡ o
+ignored o code only h =
+    event-resumes o code only ∙ ap (withChannel o) (resumes-nothing (o .channel .registers) (o .channel) (o .user) code h)
+
+ignored-command : (o : Alone) (value : ℕ) → OnlyD1 value → (o .channel .sequencer .stage ≡ stage.Paused 0 → bitAt value 1 ≡ false)
+    → move o (command o value) ≡ o
+ignored-command o value only h =
+    command-resumes o value only ∙ ap (withChannel o) (resume-nothing (bitAt value 1) (o .channel) 0 0 h)
+
+pub other-pause : the.OtherPause
+other-pause o code j only at off =
+    ignored o code only (λ k e. ap (λ (x : ℕ). hears o x code) (let same : k ≡ j = cc in same) ∙ off)
+
+-- register 0 is Start's
+pub vme-pause : the.VmePause
+vme-pause o code only at = other-pause o code 0 only at (only .1)
+
+pub not-by-d1 : the.NotByD1
+not-by-d1 o value j only at some = ignored-command o value only (λ e. apart j 0 at e (omega arith))
+
+pub meanwhile : the.Meanwhile
+meanwhile o at =
+    (λ code only. ignored o code only (λ k e. not-resuming k at e), λ value only. ignored-command o value only (λ e. not-resuming 0 at e))
+
+-- ---- The resume that is taken
+
+-- the channel with resume k loaded
+abbrev loaded : Channel → ℕ → ℕ → Channel
+loaded c k d = withSequencer c (resumed (c .sequencer) k d)
+
+-- resume k with its code on, in pause k; resume j before it, and resume j after it
+module _ (r : Registers) (c : Channel) (user code k : ℕ) (on : triggersOf r k code ≡ true)
+    (at : c .sequencer .stage ≡ stage.Paused k) where
+  itself : resumedIf (triggersOf r k code) c k (delayOf r k user) ≡ loaded c k (delayOf r k user)
+  unfolding resumedIf
+  itself = rw on
+
+  before : (j : ℕ) → (j ≡ k → ⊥) → resumedIf (triggersOf r j code) c j (delayOf r j user) ≡ c
+  before j differ = resume-nothing (triggersOf r j code) c j (delayOf r j user) (λ a. apart j k a at differ)
+
+  later : (j : ℕ)
+      → resumedIf (triggersOf r j code) (loaded c k (delayOf r k user)) j (delayOf r j user) ≡ loaded c k (delayOf r k user)
+  later j =
+      resume-nothing (triggersOf r j code) (loaded c k (delayOf r k user)) j (delayOf r j user)
+      (λ a. not-resuming j (ap (λ s. s .stage) (resume-taken (c .sequencer) k (delayOf r k user) at)) a)
+
+taken : (r : Registers) (c : Channel) (user code k : ℕ) → 1 ≤ k → k ≤ 4 → triggersOf r k code ≡ true
+    → c .sequencer .stage ≡ stage.Paused k → resumedOn r c user code ≡ loaded c k (delayOf r k user)
+unfolding resumedOn
+taken r c user code zero some few on at = absurd (omega arith)
+taken r c user code (suc zero) some few on at =
+    rw (itself r c user code 1 on at, later r c user code 1 on at 2, later r c user code 1 on at 3) (later r c user code 1 on at 4)
+taken r c user code (suc (suc zero)) some few on at =
+    rw (before r c user code 2 on at 1 (omega arith), itself r c user code 2 on at, later r c user code 2 on at 3)
+    (later r c user code 2 on at 4)
+taken r c user code (suc (suc (suc zero))) some few on at =
+    rw (before r c user code 3 on at 1 (omega arith), before r c user code 3 on at 2 (omega arith), itself r c user code 3 on at)
+    (later r c user code 3 on at 4)
+taken r c user code (suc (suc (suc (suc zero)))) some few on at =
+    rw (before r c user code 4 on at 1 (omega arith), before r c user code 4 on at 2 (omega arith), before r c user code 4 on at 3 (omega arith))
+    (itself r c user code 4 on at)
+taken r c user code (suc (suc (suc (suc (suc k))))) some few on at = absurd (omega arith)
+
+command-taken : (c : Channel) (on : Bool) → on ≡ true → resumedIf on c 0 0 ≡ loaded c 0 0
+unfolding resumedIf
+command-taken c on h = rw h
+
+-- the resume counts down in its stage to the tick that sends
+module _ (words : ℕ → ℕ) (n p : ℕ) where
+  way-at : (t : Sequencer) (x : Bool)
+      → (cond x (quiet t) (repeating t p) .sequencer .stage ≡ t .stage)
+      × (cond x (quiet t) (repeating t p) .sequencer .resume ≡ t .resume)
+  way-at t true = (refl, refl)
+  way-at t false = (repeating-same t p .stage-same, repeating-same t p .resume-same)
+
+  way-turn : (s : Sequencer) → s .stage ≡ stage.Resuming → 1 < s .resume
+      → next words n p s
+      ≡ cond (leb (s .resume) 10) (quiet (withResume s (s .resume - 1))) (repeating (withResume s (s .resume - 1)) p)
+  unfolding ticked resuming
+  way-turn s at more =
+      ap (λ (g : Stage). tickedAt g s (words (s .index)) n p) at
+      ∙ ap
+      (λ (e : Bool).
+      cond e (sentNext s (words (s .index)) n p)
+      (cond (leb (s .resume) 10) (quiet (withResume s (s .resume - 1))) (repeating (withResume s (s .resume - 1)) p)))
+      (lt-leb (s .resume) 1 more)
+
+  way : (s : Sequencer) (d j : ℕ) → j < d + 10
+      → (ticks words n p (loadedResume s d) j .stage ≡ stage.Resuming)
+      × (ticks words n p (loadedResume s d) j .resume ≡ d + 10 - j)
+  unfolding ticks
+  way s d zero h = (refl, omega arith)
+  way s d (suc j) h =
+      let t = ticks words n p (loadedResume s d) j in
+      let k = way s d j (omega arith) in
+      let e = way-turn t (k .0) (omega (arith, k .1)) in
+      let v = way-at (withResume t (t .resume - 1)) (leb (t .resume) 10) in
+      let f : t .resume - 1 ≡ d + 10 - suc j = omega (arith, k .1) in
+      (ap (λ (x : Ticked). x .sequencer .stage) e ∙ v .0 ∙ k .0, ap (λ (x : Ticked). x .sequencer .resume) e ∙ v .1 ∙ f)
+
+resumes : (o : Alone) (k d : ℕ) → o .channel .sequencer .stage ≡ stage.Paused k → 1 ≤ o .channel .sequencer .left
+    → Resumes o (withChannel o (loaded (o .channel) k d)) d
+resumes o k d at some =
+    let q = o .channel .sequencer in
+    let r = withChannel o (loaded (o .channel) k d) in
+    let l = laws.resume (wordAt o) (o .n) (period o) q k d at some (period-some o) in
+    record {
+      repeats = λ j a b. repeat o r (q .word) (q .left) j a refl (l .0 j b);
+      silent = λ j a b. on-tick r j (omega arith) ∙ ap (sendFrame (o .channel .registers)) (l .1 j a b);
+      sent = on-tick r (d + 10) (omega arith) ∙ ap (sendFrame (o .channel .registers)) (l .2);
+      done = sent-after r (d + 10) (q .index) (l .3);
+      under-way = λ j h.
+          ap (λ (x : Alone). x .channel .sequencer .stage) (after-with r j)
+          ∙ ap (λ (s : Sequencer). ticks (wordAt o) (o .n) (period o) s j .stage) (resume-taken q k d at)
+          ∙ way (wordAt o) (o .n) (period o) q d j h .0;
+    }
+
+pub resume-by-event : the.ResumeByEvent
+resume-by-event o code k only low high on at some =
+    let r = o .channel .registers in
+    subst (λ (p : Alone). Resumes o p (delay o k))
+    (sym (event-resumes o code only ∙ ap (withChannel o) (taken r (o .channel) (o .user) code k low high on at)))
+    (resumes o k (delay o k) at some)
+
+pub resume-by-command : the.ResumeByCommand
+resume-by-command o value only on at some =
+    subst (λ (p : Alone). Resumes o p 0)
+    (sym (command-resumes o value only ∙ ap (withChannel o) (command-taken (o .channel) (bitAt value 1) on)))
+    (resumes o 0 0 at some)

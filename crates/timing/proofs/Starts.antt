@@ -1,0 +1,57 @@
+-- Start: nothing on ticks 1 to delay + 9, and the frame of index 0 on tick delay + 10. Assumes nothing.
+use Prim.Native.Nat.{ℕ, _+_}
+use mathlib.Core.Path.{_≡_, refl, sym, ap, subst, _∙_}
+use native.Mathlib.Omega.{arith}
+use Rattle.status.specs.Bits.{bitAt}
+use Rattle.registers.specs.Map.{groupEndEvent}
+use Rattle.sequencer.specs.declared.Sequencer.{Sequencer}
+use Rattle.sequencer.specs.Playing as seq
+use Rattle.sequencer.specs.Runs.{Leaves}
+use Rattle.sequencer.proofs.Laws as laws
+use Rattle.life.specs.Life.{endedIf}
+use Rattle.channel.specs.Alone.{Alone, move}
+use Rattle.timing.specs.Ticking.{wordAt, period, Keeps, NextFrame}
+use Rattle.timing.specs.Timing.{command, eventCall, hears, delay}
+use Rattle.timing.specs.Timing as the
+use Rattle.timing.proofs.Bridge.{next-frame}
+use Rattle.timing.proofs.Calls.{command-move, event-move, command-starts, event-starts, command-registers, event-registers}
+
+start-frame : (o : Alone) (s : Sequencer) (d : ℕ) → o .channel .sequencer ≡ seq.started s d → NextFrame o (d + 10) 0
+start-frame o s d e =
+    next-frame o (d + 10) 0 (omega arith)
+    (subst (λ (q : Sequencer). Leaves (wordAt o) (o .n) (period o) q (d + 10) 0) (sym e)
+    (laws.start (wordAt o) (o .n) (period o) s d))
+
+pub start-by-command : the.StartByCommand
+start-by-command o value armed on =
+    let c = o .channel in
+    start-frame (move o (command o value)) (endedIf (bitAt value 2) c .sequencer) 0
+    (ap (λ (p : Alone). p .channel .sequencer) (command-move o value) ∙ command-starts c value armed on)
+
+pub start-by-event : the.StartByEvent
+start-by-event o code armed on =
+    let c = o .channel in
+    start-frame (move o (eventCall o code)) (endedIf (hears o groupEndEvent code) c .sequencer) (delay o 0)
+    (ap (λ (p : Alone). p .channel .sequencer) (event-move o code) ∙ event-starts c (o .user) code armed on)
+
+pub start-keeps : the.StartKeeps
+start-keeps o = (
+  λ value off.
+      subst (Keeps o) (sym (command-move o value))
+      record {
+        same-n = refl;
+        same-m = refl;
+        same-user = refl;
+        same-registers = command-registers (o .channel) value off;
+        same-setpoints = refl;
+      },
+  λ code off.
+      subst (Keeps o) (sym (event-move o code))
+      record {
+        same-n = refl;
+        same-m = refl;
+        same-user = refl;
+        same-registers = event-registers (o .channel) (o .user) code off;
+        same-setpoints = refl;
+      },
+)

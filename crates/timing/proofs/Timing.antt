@@ -1,0 +1,30 @@
+-- All the laws of timing, as stated. Assumes nothing.
+use Rattle.timing.specs.Timing as the
+use Rattle.timing.proofs.Bridge.{bridge, later-ticks}
+use Rattle.timing.proofs.Starts.{start-by-command, start-by-event, start-keeps}
+use Rattle.timing.proofs.Series.{countdown, plain-next, series, held, held-stays, held-word}
+use Rattle.timing.proofs.Resuming.{resume-by-event, resume-by-command, other-pause, vme-pause, not-by-d1, meanwhile}
+use Rattle.timing.proofs.Loaded.{loaded}
+
+pub timing : the.Timing
+timing =
+    record {
+      bridge = bridge;
+      later-ticks = later-ticks;
+      start-by-command = start-by-command;
+      start-by-event = start-by-event;
+      start-keeps = start-keeps;
+      countdown = countdown;
+      plain-next = plain-next;
+      series = series;
+      held = held;
+      held-stays = held-stays;
+      held-word = held-word;
+      resume-by-event = resume-by-event;
+      resume-by-command = resume-by-command;
+      other-pause = other-pause;
+      vme-pause = vme-pause;
+      not-by-d1 = not-by-d1;
+      meanwhile = meanwhile;
+      loaded = loaded;
+    }

@@ -1,0 +1,2 @@
+// Theorems alone: when a channel sends which frame, over what ticks answer on the one-channel definition (crate `channel`, specs/Alone.antt).
+// specs/Timing.antt states them.
