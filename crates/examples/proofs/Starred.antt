@@ -11,6 +11,7 @@ use Rattle.timing.specs.Ticking.{NextFrame}
 use Rattle.timing.specs.Timing.{eventCall}
 use Rattle.timing.proofs.Timing.{timing}
 use Rattle.examples.specs.Starred.{FrameRows, FirstFrameOn, DelayRows, ResumeRows, WordRows, Starred}
+use Rattle.examples.proofs.RunRows.{run-rows}
 use Rattle.examples.proofs.Resumes.{resume-25, resume-0}
 
 frame-rows : FrameRows
@@ -41,4 +42,4 @@ unfolding storedWord
 word-rows = record { d31-with-d16 = λ word last pause. moves.last-bit word false last; stored-word = refl }
 
 pub starred : Starred
-starred = record { frames = frame-rows; delays = delay-rows; resumes = resume-rows; words = word-rows }
+starred = record { frames = frame-rows; delays = delay-rows; resumes = resume-rows; words = word-rows; runs = run-rows }

@@ -1,2 +1,3 @@
+pub mod RunRows
 pub mod Starred
 pub mod Reached

@@ -3,6 +3,7 @@ use mathlib.Core.Path.{_≡_}
 use mathlib.Core.Bool.{true, false, cond}
 use Prim.Native.Nat.{ℕ, _+_, _-_, _^_, _≤_, _<_}
 use lib.Dec.{leb}
+use Rattle.examples.specs.RunRows.{RunRows}
 use Rattle.frame.specs.Frames.{crcFor, encoded, framed, refused, fields, read, crcRight}
 use Rattle.status.specs.Bits.{bitAt}
 use Rattle.registers.specs.Map.{startEvent}
@@ -105,3 +106,5 @@ pub record Starred : Type 0 where
   pub delays : DelayRows
   pub resumes : ResumeRows
   pub words : WordRows
+  -- the whole case
+  pub runs : RunRows

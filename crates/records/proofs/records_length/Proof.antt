@@ -1,0 +1,113 @@
+-- `records::records_length` meets its contract. Assumes nothing.
+use mathlib.Core.Path.{_≡_}
+use denote.Ref.{now}
+use Rattle.records.specs.Files.{recordsLength, fileRefusal, distance, count}
+use borrow.Author.Tests.{lt-ltb, le-ltb, le-leb, lt-leb, eq-eqb, ne-eqb}
+use borrow.Author.Needs.{needs}
+use Rattle.records.proofs.records_length.Statement.{statement}
+use Rattle.records.proofs.records_length.Tie as tie
+
+back : (c : tie.After-word) → c .word .result ≡ distance (now (c .before .before .before .before .args .file))
+unfolding distance
+back c = c .word .ensures
+
+many : (c : tie.After-word2) → c .word2 .result ≡ count (now (c .before .before .before .before .before .args .file))
+unfolding count
+many c = c .word2 .ensures
+
+returns : tie.Need-returns
+unfolding recordsLength fileRefusal
+returns c =
+    simp (
+      lt-ltb _ _ (c .if1 .taken),
+      lt-leb _ _ (c .if1 .taken),
+    )
+
+returns-2 : tie.Need-returns-2
+unfolding recordsLength fileRefusal
+returns-2 c =
+    simp (
+      lt-ltb _ _ (c .if2 .taken),
+      lt-leb _ _ (c .if2 .taken),
+      le-leb _ _ (c .before .if1 .left),
+      le-ltb _ _ (c .before .if1 .left),
+    )
+
+word-requires : tie.Need-word-requires
+word-requires c κs = search needs
+
+cast-distance : tie.Need-cast-distance
+cast-distance c = search needs
+
+sub-word : tie.Need-sub-word
+sub-word c = search needs
+
+word-requires-2 : tie.Need-word-requires-2
+word-requires-2 c κs = search needs
+
+cast-count : tie.Need-cast-count
+cast-count c = search needs
+
+mul-if3 : tie.Need-mul-if3
+mul-if3 c = search needs
+
+add-if3 : tie.Need-add-if3
+add-if3 c = search needs
+
+returns-3 : tie.Need-returns-3
+unfolding recordsLength fileRefusal
+returns-3 c = rw (← back (c .before .before), ← many (c .before))
+    (simp (
+      ne-eqb _ _ (c .if3 .taken),
+      le-leb _ _ (c .before .before .before .if2 .left),
+      le-ltb _ _ (c .before .before .before .if2 .left),
+      le-leb _ _ (c .before .before .before .before .if1 .left),
+      le-ltb _ _ (c .before .before .before .before .if1 .left),
+    ))
+
+returns-4 : tie.Need-returns-4
+unfolding recordsLength fileRefusal
+returns-4 c = rw (← back (c .before .before .before), ← many (c .before .before))
+    (simp (
+      lt-ltb _ _ (c .if4 .taken),
+      lt-leb _ _ (c .if4 .taken),
+      eq-eqb _ _ (c .before .if3 .left),
+      le-leb _ _ (c .before .before .before .before .if2 .left),
+      le-ltb _ _ (c .before .before .before .before .if2 .left),
+      le-leb _ _ (c .before .before .before .before .before .if1 .left),
+      le-ltb _ _ (c .before .before .before .before .before .if1 .left),
+    ))
+
+mul-t14 : tie.Need-mul-t14
+mul-t14 c = search needs
+
+returns-5 : tie.Need-returns-5
+unfolding recordsLength fileRefusal
+returns-5 c = rw (← back (c .before .before .before), ← many (c .before .before))
+    (simp (
+      le-leb _ _ (c .if4 .left),
+      le-ltb _ _ (c .if4 .left),
+      eq-eqb _ _ (c .before .if3 .left),
+      le-leb _ _ (c .before .before .before .before .if2 .left),
+      le-ltb _ _ (c .before .before .before .before .if2 .left),
+      le-leb _ _ (c .before .before .before .before .before .if1 .left),
+      le-ltb _ _ (c .before .before .before .before .before .if1 .left),
+    ))
+
+pub records-length-spec : {M : Type 1} → statement M
+records-length-spec =
+    tie.close
+    (tie.spec
+    returns
+    returns-2
+    word-requires
+    cast-distance
+    sub-word
+    word-requires-2
+    cast-count
+    mul-if3
+    add-if3
+    returns-3
+    returns-4
+    mul-t14
+    returns-5)

@@ -1,0 +1,43 @@
+-- Document 01, 'Run file and log line': the file, its trailer and the part that holds the records. Bytes are numbers below 256; nothing here wraps.
+use Prim.Native.Nat.{ℕ, _+_, _-_, _*_}
+use mathlib.Core.Bool.{Bool, cond}
+use mathlib.Core.List.{List, []}
+use lib.ListN.{length, getD, take, drop}
+use lib.Dec.{eqb, ltb}
+use Rattle.refusal.specs.Refusals.{numberOf}
+use Rattle.refusal.specs.declared.Refusal.the-variants as refusal
+use Rattle.life.specs.Answers.{Answer}
+use Rattle.life.specs.Answers as ans
+use Rattle.channel.specs.Calls.{unless}
+
+-- "little-endian": the 16-bit and the 32-bit number whose lowest byte stands at `at`
+abbrev pub number16 : List ℕ → ℕ → ℕ
+number16 s at = getD s at 0 + 256 * getD s (at + 1) 0
+
+abbrev pub number32 : List ℕ → ℕ → ℕ
+number32 s at = number16 s at + 65536 * number16 s (at + 2)
+
+-- "a trailer of two 32-bit little-endian numbers: distance back from the file's end to the first record, and record count"
+unfoldable pub distance : List ℕ → ℕ
+distance file = number32 file (length file - 8)
+
+unfoldable pub count : List ℕ → ℕ
+count file = number32 file (length file - 4)
+
+-- "A longer file, one under 8 bytes, or a distance other than 8 × count + 8 or past the file's length, is 8." (0: none)
+unfoldable pub fileRefusal : List ℕ → ℕ
+fileRefusal file =
+    cond (ltb 65536 (length file)) (numberOf refusal.BadTrailer)
+    (cond (ltb (length file) 8) (numberOf refusal.BadTrailer)
+    (cond (eqb (distance file) (8 * count file + 8))
+    (cond (ltb (length file) (distance file)) (numberOf refusal.BadTrailer) 0)
+    (numberOf refusal.BadTrailer)))
+
+-- "The reader hands back the records as a part of the file lent to it": between preamble and trailer, empty where refused
+unfoldable pub recordsPart : List ℕ → List ℕ
+recordsPart file =
+    cond (eqb (fileRefusal file) 0) (take (8 * count file) (drop (length file - distance file) file)) []
+
+-- the call beside it: the number or the part's length in bytes
+unfoldable pub recordsLength : List ℕ → Answer
+recordsLength file = unless (fileRefusal file) (ans.partLength (8 * count file))

@@ -1,0 +1,29 @@
+-- What the log line's counts are, against the answers that the board's calls gave along the run. proofs/Laws.antt shows it for every file that is not refused.
+use Prim.Native.Nat.{ℕ, _+_}
+use mathlib.Core.Path.{_≡_}
+use mathlib.Core.Bool.{Bool}
+use mathlib.Core.List.{List, [], _∷_}
+use Rattle.status.specs.Bits.{bitOf}
+use Rattle.board.specs.Answers.{Said}
+use Rattle.records.specs.Files.{count, recordsPart}
+use Rattle.tally.specs.declared.Counts.{Counts}
+use Rattle.tally.specs.Tallies.{refuses, firstSends, secondSends, thirdSends, fourthSends}
+use Rattle.run_file.specs.Runs.{start, answersAlong}
+
+-- how many answers pass a test
+unfoldable pub howMany : (Said → Bool) → List Said → ℕ
+howMany test [] = 0
+howMany test (x ∷ xs) = bitOf (test x) + howMany test xs
+
+-- all that the calls of a file's run answered, in order; a bad record shows 9
+abbrev pub answersOf : List ℕ → List Said
+answersOf file = answersAlong start (recordsPart file) (count file)
+
+-- "records, refusals and frames of channels 1–4"
+pub record Drawn (file : List ℕ) (c : Counts) : Type 0 where
+  pub steps : c .steps ≡ count file
+  pub refused : c .refused ≡ howMany refuses (answersOf file)
+  pub first : c .first ≡ howMany firstSends (answersOf file)
+  pub second : c .second ≡ howMany secondSends (answersOf file)
+  pub third : c .third ≡ howMany thirdSends (answersOf file)
+  pub fourth : c .fourth ≡ howMany fourthSends (answersOf file)

@@ -1,0 +1,79 @@
+// The run of a file: its records' calls on a board of its own, into six counts, and the line that says them.
+use board_state::Board;
+use records::RecordsLength;
+use replay::Bench;
+use tally::Counts;
+use tally::Ran;
+ghost use mathlib.Core.Path.{_≡_};
+ghost use Prim.Native.Nat.{_+_, _*_, _/_, _≤_};
+ghost use lib.ListN.{length};
+ghost use Rattle.log_line.specs.Lines.{Fills};
+ghost use Rattle.tally.specs.Tallies.{tallies, stepped};
+ghost use Rattle.tally.specs.Answers.{ranOf};
+ghost use Rattle.replay.specs.Worlds.{world, after, answers};
+ghost use Rattle.run_file.specs.Runs.{start, askedAt, countsAfter, runOf, runLine};
+
+// Record k of the part, from 0: done and counted.
+fn step(s: Bench, part: &[u8], k: usize, setpoints: &mut [u32], readbacks: &mut [u32]) -> Bench
+    requires { ⌜ 8 * k + 8 ≤ length (now part) ⌝ }
+    ensures { λ r. ⌜ (world (r .board) (now (setpoints .exit)) (now (readbacks .exit)) ≡ after (world (s .board) (now (setpoints .entry)) (now (readbacks .entry))) (askedAt (now (part .entry)) k)) × (r .counts ≡ stepped (tallies (s .counts) (answers (world (s .board) (now (setpoints .entry)) (now (readbacks .entry))) (askedAt (now (part .entry)) k)))) ⌝ }
+{
+    let a = 8 * k;
+    let e = a + 8;
+    let q = records::decode(&part[a..e]);
+    let x = replay::apply(s, setpoints, readbacks, q);
+    let board = x.board;
+    let counts = x.counts;
+    Bench {
+        board: board,
+        counts: counts.stepped(),
+    }
+}
+
+// All records of the part, from a board and its memory.
+fn play(b: Board, part: &[u8], setpoints: &mut [u32], readbacks: &mut [u32]) -> Counts
+    ensures { λ r. ⌜ r ≡ countsAfter (world b (now (setpoints .entry)) (now (readbacks .entry))) (now (part .entry)) (length (now (part .entry)) / 8) ⌝ }
+{
+    let n = part.len() / 8;
+    let mut x = Bench {
+        board: b,
+        counts: Counts::nothing(),
+    };
+    let mut k: usize = 0;
+    while k < n {
+        x = step(x, part, k, setpoints, readbacks);
+        k += 1;
+    }
+    let counts = x.counts;
+    counts
+}
+
+// The records run on a zeroed board of depths 16 and 64.
+fn run_records(part: &[u8]) -> Counts
+    ensures { λ r. ⌜ r ≡ countsAfter start (now (part .entry)) (length (now (part .entry)) / 8) ⌝ }
+{
+    let mut setpoints = [0u32; 1024];
+    let mut readbacks = [0u32; 512];
+    let w = board::open(16, 64, &setpoints, &readbacks);
+    let b = w.board;
+    play(b, part, &mut setpoints, &mut readbacks)
+}
+
+// The run of a file: refused 8, or the six counts.
+pub fn run(file: &[u8]) -> Ran
+    ensures { λ r. ⌜ ranOf r ≡ runOf (now (file .entry)) ⌝ }
+{
+    let answer = records::records_length(file);
+    match answer {
+        RecordsLength::Bytes(_) => Ran::Counted(run_records(records::records(file))),
+        RecordsLength::Refused(k) => Ran::Refused(k),
+    }
+}
+
+// The line of a file's run, written with no line end; answers its length.
+pub fn run_line(file: &[u8], out: &mut [u8; 96]) -> usize
+    ensures { λ r. ⌜ Fills r (now (out .exit)) (runLine (now (file .entry))) ⌝ }
+{
+    let ran = run(file);
+    log_line::write_line(out, ran)
+}

@@ -1,0 +1,144 @@
+// What a run counts: steps, refusals and the frames of channels 1 to 4, drawn from the answers of the board's calls.
+use board::Frames;
+use channel::Outcome;
+use channel::Shown;
+use life::Line;
+use life::Receipt;
+use refusal::Refusal;
+ghost use mathlib.Core.Path.{_≡_};
+ghost use Rattle.refusal.specs.Refusals.{numberOf};
+ghost use Rattle.life.specs.Answers.{receiptOf, lineOf};
+ghost use Rattle.life.specs.Answers.{refused as Answers·refused};
+ghost use Rattle.channel.specs.Answers.{outcomeOf, shownOf};
+ghost use Rattle.board.specs.Answers.{one, framesOf};
+ghost use Rattle.tally.specs.Tallies.{refusedAnswer, frameAnswer, nothingYet, tally};
+ghost use Rattle.tally.specs.Tallies.{more as Tallies·more, stepped as Tallies·stepped};
+
+pub struct Counts {
+    pub steps: u32,
+    pub refused: u32,
+    pub first: u32,
+    pub second: u32,
+    pub third: u32,
+    pub fourth: u32,
+}
+
+// The answer of a run: the six counts, or the file is refused.
+pub enum Ran {
+    Counted(Counts),
+    Refused(Refusal),
+}
+
+// One more where the test holds; a count stays at its type's largest number.
+fn more(test: bool, n: u32) -> u32
+    ensures { λ r. ⌜ r ≡ Tallies·more test n ⌝ }
+{
+    if test {
+        if n < 4294967295 {
+            return n + 1;
+        }
+        return n;
+    }
+    n
+}
+
+fn is_refused_outcome(x: Outcome) -> bool
+    ensures { λ r. ⌜ r ≡ refusedAnswer (outcomeOf x) ⌝ }
+{
+    match x {
+        Outcome::Done => false,
+        Outcome::Refused(_) => true,
+    }
+}
+
+fn is_refused_read(x: Shown) -> bool
+    ensures { λ r. ⌜ r ≡ refusedAnswer (shownOf x) ⌝ }
+{
+    match x {
+        Shown::Value(_) => false,
+        Shown::Refused(_) => true,
+    }
+}
+
+fn is_refused_reply(x: Receipt) -> bool
+    ensures { λ r. ⌜ r ≡ refusedAnswer (receiptOf x) ⌝ }
+{
+    match x {
+        Receipt::Kept => false,
+        Receipt::Lost => false,
+        Receipt::Unsolicited => false,
+        Receipt::Refused(_) => true,
+    }
+}
+
+fn is_frame(x: Line) -> bool
+    ensures { λ r. ⌜ r ≡ frameAnswer (lineOf x) ⌝ }
+{
+    match x {
+        Line::Silent => false,
+        Line::Frame(_) => true,
+    }
+}
+
+impl Counts {
+    pub fn nothing() -> Self
+        ensures { λ r. ⌜ r ≡ nothingYet ⌝ }
+    {
+        Self {
+            steps: 0,
+            refused: 0,
+            first: 0,
+            second: 0,
+            third: 0,
+            fourth: 0,
+        }
+    }
+
+    // A record taken.
+    pub fn stepped(mut self) -> Self
+        ensures { λ r. ⌜ r ≡ Tallies·stepped self ⌝ }
+    {
+        self.steps = more(true, self.steps);
+        self
+    }
+
+    // The answer of a call counted: of one that has nothing to tell, of a read, of a reply, of a tick.
+    pub fn outcome(mut self, x: Outcome) -> Self
+        ensures { λ r. ⌜ r ≡ tally self (one (outcomeOf x)) ⌝ }
+    {
+        self.refused = more(is_refused_outcome(x), self.refused);
+        self
+    }
+
+    pub fn read(mut self, x: Shown) -> Self
+        ensures { λ r. ⌜ r ≡ tally self (one (shownOf x)) ⌝ }
+    {
+        self.refused = more(is_refused_read(x), self.refused);
+        self
+    }
+
+    pub fn reply(mut self, x: Receipt) -> Self
+        ensures { λ r. ⌜ r ≡ tally self (one (receiptOf x)) ⌝ }
+    {
+        self.refused = more(is_refused_reply(x), self.refused);
+        self
+    }
+
+    pub fn tick(mut self, x: Frames) -> Self
+        ensures { λ r. ⌜ r ≡ tally self (framesOf x) ⌝ }
+    {
+        match x {
+            Frames::Each(a, b, c, d) => {
+                self.first = more(is_frame(a), self.first);
+                self.second = more(is_frame(b), self.second);
+                self.third = more(is_frame(c), self.third);
+                self.fourth = more(is_frame(d), self.fourth);
+                self
+            }
+            Frames::Refused(_) => {
+                self.refused = more(true, self.refused);
+                self
+            }
+        }
+    }
+}

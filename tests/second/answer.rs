@@ -1,0 +1,48 @@
+//! The answers to calls, as `trace` and `calls` print them.
+
+use crate::board::Reply;
+use std::fmt;
+
+#[derive(Clone, PartialEq, Debug)]
+pub enum Answer {
+    Ok,
+    Value(u16),
+    /// (tick within the record from 1, channel 1–4, frame), by tick, then channel.
+    Ticks(Vec<(u32, usize, u64)>),
+    Reply(Reply),
+    Part(Vec<u32>),
+    Length(usize),
+    Level(u16),
+    /// A script record that makes no call.
+    None,
+    Refused(u8),
+}
+
+impl fmt::Display for Answer {
+    fn fmt(&self, f: &mut fmt::Formatter) -> fmt::Result {
+        match self {
+            Answer::Ok => write!(f, "ok"),
+            Answer::Value(v) => write!(f, "value {v:04X}"),
+            Answer::Ticks(sent) => {
+                write!(f, "ticks")?;
+                sent.iter().try_for_each(|(t, c, frame)| write!(f, " {t}:{c}:{frame:011X}"))
+            }
+            Answer::Reply(Reply::Kept) => write!(f, "kept"),
+            Answer::Reply(Reply::Lost) => write!(f, "lost"),
+            Answer::Reply(Reply::Unasked) => write!(f, "unasked"),
+            Answer::Part(words) => {
+                write!(f, "part")?;
+                words.iter().try_for_each(|w| write!(f, " {w:08X}"))
+            }
+            Answer::Length(n) => write!(f, "length {n}"),
+            Answer::Level(n) => write!(f, "level {n}"),
+            Answer::None => write!(f, "none"),
+            Answer::Refused(n) => write!(f, "refused {n}"),
+        }
+    }
+}
+
+/// An answer or a refusal's number as an answer.
+pub fn answer<T>(result: Result<T, u8>, show: impl FnOnce(T) -> Answer) -> Answer {
+    result.map_or_else(Answer::Refused, show)
+}

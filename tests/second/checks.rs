@@ -1,0 +1,96 @@
+//! `selftest`: document 01's starred examples, run on this program.
+
+use crate::board::{crc, frame, Board, Reply};
+use crate::{runfile, script};
+
+struct Small {
+    b: Board,
+    s: Vec<u32>,
+    r: Vec<u32>,
+}
+
+impl Small {
+    /// Channel 1 armed, period 10, with these words.
+    fn new(words: &[u32]) -> Small {
+        let (n, m) = (4, 7);
+        let mut t = Small { b: Board::open(n, m, 256, 56).0, s: vec![0; 256], r: vec![0; 56] };
+        for (i, &w) in words.iter().enumerate() {
+            t.b.set(1, 1, 1, i as u32, w, &mut t.s).unwrap();
+        }
+        t.write(0x80A, 3);
+        t.b.arm(1).unwrap();
+        t
+    }
+    fn write(&mut self, address: u32, value: u16) {
+        self.b.write(address, value, &mut self.r).unwrap();
+    }
+    /// The ticks (counted on from `from`) on which channel 1 sends, with the data sent.
+    fn sends(&mut self, from: u64, to: u64) -> Vec<(u64, u64)> {
+        let mut seen = Vec::new();
+        for t in from..=to {
+            if let Some(f) = self.b.tick(&self.s).unwrap()[0] {
+                seen.push((t, f >> 18 & 0xFFFF));
+            }
+        }
+        seen
+    }
+}
+
+pub fn all() -> Vec<(&'static str, bool)> {
+    let mut done = Vec::new();
+    // "ID, data 0: auxiliary 0, 1, 2, 3 give CRC 00h, B3h, D5h, 66h; frames 3, 1743, 2903, 3483."
+    done.push(("CRC rows", (0..4).map(crc).eq([0x00, 0xB3, 0xD5, 0x66])));
+    done.push(("frames", (0..4).map(|a| frame(0, 0, a)).eq([3, 1743, 2903, 3483])));
+    // "Frame 7 is well framed, CRC wrong. 2 and 2^42 + 3 refuse 7."
+    let mut t = Small::new(&[0x8000_0005]);
+    t.write(0x808, 1);
+    t.sends(1, 10);
+    done.push(("frame 7", t.b.reply(1, 7, &mut t.r) == Ok(Reply::Kept) && t.r[0] == 0xA100_0000));
+    done.push(("2 and 2^42 + 3", [2, (1 << 42) + 3].iter().all(|&f| t.b.reply(1, f, &mut t.r) == Err(7))));
+    // "Delay 0: first frame on tick 10. Delay FFFFFFh: tick 16,777,225."
+    let mut t = Small::new(&[5]);
+    t.write(0x820, 0x101);
+    t.b.event(1, &mut t.r).unwrap();
+    done.push(("first frame on tick 10", t.sends(1, 10) == [(10, 5)]));
+    let mut t = Small::new(&[5]);
+    t.write(0x820, 0x101);
+    t.write(0x840, 0xFF);
+    t.write(0x842, 0xFFFF);
+    t.b.event(1, &mut t.r).unwrap();
+    done.push(("first frame on tick 16,777,225", t.sends(1, 16_777_225) == [(16_777_225, 5)]));
+    // "Period 10, pause 1 sent on tick 10, resume delay 25 then loaded: repeats on 20 and 30,
+    // next word on 45. Delay 0: next on 20."
+    for (delay, seen) in [(25, &[(20, 5), (30, 5), (45, 6)][..]), (0, &[(20, 6)]), (20, &[(20, 5), (30, 5), (40, 6)])] {
+        let mut t = Small::new(&[0x0001_0005, 6]);
+        t.write(0x822, 0x1AA);
+        t.write(0x862, delay);
+        t.write(0x808, 1);
+        t.sends(1, 10);
+        t.b.event(0xAA, &mut t.r).unwrap();
+        let last = seen[seen.len() - 1].0;
+        done.push(("resume row", t.sends(11, last) == seen));
+    }
+    // "D31 with D16: last. User 1, first and last, ID 15h, data 1234h: A0151234h."
+    let mut t = Small::new(&[0x8001_1234]);
+    t.write(0x814, 0x15);
+    t.write(0x808, 1);
+    t.sends(1, 10);
+    done.push(("D31 with D16", t.b.read(0x804) == Ok(0xC000)));
+    t.b.reply(1, frame(0x15, 0x1234, 0), &mut t.r).unwrap();
+    done.push(("A0151234h", t.r[0] == 0xA015_1234));
+    // the whole case, the empty run, and what is no run file
+    let whole = [
+        [3, 1, 0, 0, 5, 0, 0, 0x80], [1, 0, 0x0A, 8, 3, 0, 0, 0], [8, 1, 0, 0, 1, 0, 0, 0],
+        [1, 0, 8, 8, 1, 0, 0, 0], [5, 0, 0, 0, 30, 0, 0, 0], [48, 0, 0, 0, 5, 0, 0, 0],
+    ]
+    .concat();
+    done.push(("whole case", runfile::tell(&whole).line == "steps 5 refused 0 frames 3 0 0 0\n"));
+    let empty = [8, 0, 0, 0, 0, 0, 0, 0];
+    done.push(("empty run", runfile::tell(&empty).line == "steps 0 refused 0 frames 0 0 0 0\n"));
+    let wraps = [8, 0, 0, 0, 0, 0, 0, 0x20];
+    done.push(("no run files", [&[0; 8][..], &[0; 7], &wraps, &vec![0; 65_537]].iter().all(|f| runfile::tell(f).line == "file 8\n")));
+    // FNV-1a of pools of zeros is a fixed number only if the fill is left out: N 0 refuses
+    let told = script::tell(&[0; 16]);
+    done.push(("closed board", told.text.starts_with("0 refused 1\nend ")));
+    done
+}

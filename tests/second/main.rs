@@ -1,0 +1,63 @@
+//! The second program: the V233 bench written once more from documents 01 and 000 alone, to
+//! be compared with the product.
+//!
+//!   second run | trace | calls     reads standard input to its end, prints what the product's
+//!                                  program of that name prints
+//!   second gen DIR SEED COUNT      writes COUNT run files and COUNT call scripts
+//!   second answers DIR             writes this program's answers beside those files
+//!   second summary DIR             what the files of DIR reach
+//!   second selftest                document 01's starred examples
+
+mod answer;
+mod board;
+mod checks;
+mod corpus;
+mod runfile;
+mod script;
+
+use std::io::{Read, Write};
+use std::path::Path;
+use std::process::exit;
+
+fn input() -> Vec<u8> {
+    let mut bytes = Vec::new();
+    std::io::stdin().read_to_end(&mut bytes).expect("standard input");
+    bytes
+}
+
+fn print(text: &str) {
+    std::io::stdout().write_all(text.as_bytes()).expect("standard output");
+}
+
+fn main() {
+    let args: Vec<String> = std::env::args().skip(1).collect();
+    match args.iter().map(String::as_str).collect::<Vec<_>>()[..] {
+        ["run"] => print(&runfile::tell(&input()).line),
+        ["trace"] => print(&runfile::tell(&input()).trace),
+        ["calls"] => print(&script::tell(&input()).text),
+        ["gen", dir, seed, count] => {
+            let (seed, count) = (seed.parse().expect("seed"), count.parse().expect("count"));
+            corpus::generate(Path::new(dir), seed, count).expect("files written");
+        }
+        ["answers", dir] => corpus::answers(Path::new(dir)).expect("files written"),
+        ["summary", dir] => {
+            if !corpus::summary(Path::new(dir)).expect("files read") {
+                exit(1);
+            }
+        }
+        ["selftest"] => {
+            let done = checks::all();
+            for (name, _) in done.iter().filter(|d| !d.1) {
+                println!("selftest: {name} failed");
+            }
+            println!("selftest: {} of {} passed", done.iter().filter(|d| d.1).count(), done.len());
+            if done.iter().any(|d| !d.1) {
+                exit(1);
+            }
+        }
+        _ => {
+            eprintln!("second run | trace | calls | gen DIR SEED COUNT | answers DIR | summary DIR | selftest");
+            exit(2);
+        }
+    }
+}

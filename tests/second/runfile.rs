@@ -1,0 +1,136 @@
+//! The run file of document 01: `run` and `trace`.
+
+use crate::answer::{answer, Answer};
+use crate::board::Board;
+use std::fmt::Write;
+
+const N: u32 = 16;
+const M: u32 = 64;
+
+/// A 32-bit little-endian number.
+pub fn number(bytes: &[u8], at: usize) -> u32 {
+    u32::from_le_bytes([bytes[at], bytes[at + 1], bytes[at + 2], bytes[at + 3]])
+}
+
+/// "any preamble, 8-byte records, then a trailer of two 32-bit little-endian numbers: distance
+/// back from the file's end to the first record, and record count. A longer file, one under
+/// 8 bytes, or a distance other than 8 × count + 8 or past the file's length, is 8."
+pub fn records(file: &[u8]) -> Result<&[u8], u8> {
+    if file.len() > 65_536 || file.len() < 8 {
+        return Err(8);
+    }
+    let end = file.len() - 8;
+    let (distance, count) = (number(file, end) as u64, number(file, end + 4) as u64);
+    if distance != 8 * count + 8 || distance > file.len() as u64 {
+        return Err(8);
+    }
+    Ok(&file[file.len() - distance as usize..end])
+}
+
+/// "N is 16, M is 64, memory zeroed."
+pub struct Bench {
+    pub board: Board,
+    setpoints: Vec<u32>,
+    readbacks: Vec<u32>,
+}
+
+impl Bench {
+    pub fn new() -> Bench {
+        let (setpoints, readbacks) = (vec![0; 64 * N as usize], vec![0; 8 * M as usize]);
+        let (board, opened) = Board::open(N, M, setpoints.len(), readbacks.len());
+        assert_eq!(opened, Ok(()));
+        Bench { board, setpoints, readbacks }
+    }
+
+    /// "A record: byte kind, byte channel, 16-bit a, 32-bit b, little-endian." 9 is judged on
+    /// the record alone, before all else.
+    pub fn step(&mut self, record: &[u8]) -> Answer {
+        let (kind, channel) = (record[0], record[1] as u32);
+        let a = u16::from_le_bytes([record[2], record[3]]) as u32;
+        let b = number(record, 4);
+        let in_range = match kind {
+            1 => b <= 65_535,
+            3 => a <= 255,
+            4 => b <= 255,
+            5 => (1..=10_000).contains(&b),
+            8 => b <= 1,
+            2 | 6 | 7 => true,
+            _ => false,
+        };
+        if !in_range {
+            return Answer::Refused(9);
+        }
+        let (board, readbacks) = (&mut self.board, &mut self.readbacks);
+        match kind {
+            1 => answer(board.write(a, b as u16, readbacks), |_| Answer::Ok),
+            2 => answer(board.read(a), Answer::Value),
+            // "a = 32 × (user − 1) + 16 × (buffer − 1) + index"
+            3 => {
+                let (user, buffer, index) = (a / 32 + 1, a / 16 % 2 + 1, a % 16);
+                answer(board.set(channel, user, buffer, index, b, &mut self.setpoints), |_| Answer::Ok)
+            }
+            4 => answer(board.event(b as u8, readbacks), |_| Answer::Ok),
+            5 => {
+                let mut sent = Vec::new();
+                for t in 1..=b {
+                    match board.tick(&self.setpoints) {
+                        Ok(frames) => note(&mut sent, t, frames),
+                        Err(n) => return Answer::Refused(n),
+                    }
+                }
+                Answer::Ticks(sent)
+            }
+            6 => answer(board.reply(channel, (a as u64) << 32 | b as u64, readbacks), Answer::Reply),
+            7 => answer(board.change_user(b), |_| Answer::Ok),
+            _ if b == 1 => answer(board.arm(channel), |_| Answer::Ok),
+            _ => answer(board.disarm(channel), |_| Answer::Ok),
+        }
+    }
+}
+
+pub fn note(sent: &mut Vec<(u32, usize, u64)>, t: u32, frames: [Option<u64>; 4]) {
+    for c in 0..4 {
+        if let Some(frame) = frames[c] {
+            sent.push((t, c + 1, frame));
+        }
+    }
+}
+
+/// The log line and the trace of a file, and the bench after it.
+pub struct Told {
+    pub line: String,
+    pub trace: String,
+    pub answers: Vec<Answer>,
+    pub bench: Bench,
+}
+
+pub fn tell(file: &[u8]) -> Told {
+    let mut bench = Bench::new();
+    let Ok(records) = records(file) else {
+        return Told { line: "file 8\n".into(), trace: "file 8\n".into(), answers: vec![Answer::Refused(8)], bench };
+    };
+    let (mut trace, mut answers) = (String::new(), Vec::new());
+    let (mut refused, mut frames) = (0, [0u64; 4]);
+    for (k, record) in records.chunks(8).enumerate() {
+        let a = bench.step(record);
+        writeln!(trace, "{} {a}", k + 1).unwrap();
+        match &a {
+            Answer::Refused(_) => refused += 1,
+            Answer::Ticks(sent) => sent.iter().for_each(|s| frames[s.1 - 1] += 1),
+            _ => {}
+        }
+        answers.push(a);
+    }
+    trace.push_str("end");
+    for (i, w) in bench.readbacks.iter().enumerate().filter(|(_, w)| **w != 0) {
+        write!(trace, " {i}={w:08X}").unwrap();
+    }
+    for c in 0..4 {
+        write!(trace, " r{}", bench.board.retired_count(c)).unwrap();
+    }
+    trace.push('\n');
+    // "prints records, refusals and frames of channels 1–4 in one line"
+    let [f1, f2, f3, f4] = frames;
+    let line = format!("steps {} refused {refused} frames {f1} {f2} {f3} {f4}\n", answers.len());
+    Told { line, trace, answers, bench }
+}

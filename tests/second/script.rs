@@ -1,0 +1,200 @@
+//! `calls`: every call of the board at any small depth. The format is CALLS.md's, in short:
+//! a 16-byte header (N, M, seed, mask), then 16-byte records
+//!
+//!   0 kind, 1 channel, 2 lent code, 3 buffer, 4–7 x, 8–11 y, 12–15 z   (little-endian)
+//!
+//!    0 open x y, lent z low and z high words    7 retired readbacks   (its lent codes)
+//!    1 write register x := y   (readbacks)      8 retired length      (its lent codes)
+//!    2 read register x                          9 ticks, x of them    (setpoints)
+//!    3 setpoint, user x, index y, word z (s.)  10 event x             (readbacks)
+//!    4 arm   5 disarm                          11 user x
+//!    6 reply y + z × 2^32      (readbacks)     12 interrupt level   13 poke
+//!
+//! Lent codes: 0 right, 1 one word short, 2 empty, 3 the other pool's first words, 4 one word
+//! long; of the retired calls: 0 own, 1 first short, 2 both empty, 3 the next channel's,
+//! 4 second short, 5 swapped, 6 first long, 7 own words parted one word early.
+
+use crate::answer::{answer, Answer};
+use crate::board::{readable, Board, Did};
+use crate::runfile::{note, number};
+use std::fmt::Write;
+
+pub const SETPOINTS: usize = 64 * 32;
+pub const READBACKS: usize = 8 * 64;
+
+pub struct Bench {
+    pub board: Board,
+    setpoints: Vec<u32>,
+    readbacks: Vec<u32>,
+}
+
+/// The words lent for a right length `len` (which the pool always holds).
+fn lend<'a>(pool: &'a mut [u32], other: &'a mut [u32], len: usize, code: u8) -> &'a mut [u32] {
+    match code {
+        1 => &mut pool[..len.saturating_sub(1)],
+        2 => &mut pool[..0],
+        3 => {
+            let most = len.min(other.len());
+            &mut other[..most]
+        }
+        4 => {
+            let most = (len + 1).min(pool.len());
+            &mut pool[..most]
+        }
+        _ => &mut pool[..len],
+    }
+}
+
+impl Bench {
+    /// Fills both pools and opens with as much as the pools hold of the right lengths.
+    pub fn new(header: &[u8]) -> (Bench, Answer) {
+        let mut s = number(header, 8);
+        if s == 0 {
+            s = 2_463_534_242;
+        }
+        let mask = number(header, 12);
+        let mut next = || {
+            s ^= s << 13;
+            s ^= s >> 17;
+            s ^= s << 5;
+            s
+        };
+        let setpoints: Vec<u32> = (0..SETPOINTS).map(|_| next() & mask).collect();
+        let readbacks: Vec<u32> = (0..READBACKS).map(|_| next()).collect();
+        let (n, m) = (number(header, 0), number(header, 4));
+        let lent_s = (64 * n as u64).min(SETPOINTS as u64) as usize;
+        let lent_r = (8 * m as u64).min(READBACKS as u64) as usize;
+        let (board, opened) = Board::open(n, m, lent_s, lent_r);
+        (Bench { board, setpoints, readbacks }, answer(opened, |_| Answer::Ok))
+    }
+
+    /// The first word and length of the two buffers lent to a retired call.
+    fn two(&self, c: u32, code: u8) -> [(usize, usize); 2] {
+        let m = self.board.m as usize;
+        let own = if (1..=4).contains(&c) { c as usize - 1 } else { 0 };
+        let of = |c: usize| [(2 * c * m, m), ((2 * c + 1) * m, m)];
+        let [(a, _), (b, _)] = of(own);
+        let short = m.saturating_sub(1);
+        match code {
+            1 => [(a, short), (b, m)],
+            2 => [(a, 0), (b, 0)],
+            3 => of((own + 1) % 4),
+            4 => [(a, m), (b, short)],
+            5 => [(b, m), (a, m)],
+            6 => [(a, m + 1), (b, m)],
+            7 => [(a, short), (a + short, m + 1)],
+            _ => [(a, m), (b, m)],
+        }
+    }
+
+    pub fn step(&mut self, r: &[u8]) -> Answer {
+        let (kind, c, code, buffer) = (r[0], r[1] as u32, r[2], r[3] as u32);
+        let (x, y, z) = (number(r, 4), number(r, 8), number(r, 12));
+        let (lent_s, lent_r) = (64 * self.board.n as usize, 8 * self.board.m as usize);
+        let two = self.two(c, code);
+        let Bench { board, setpoints, readbacks } = self;
+        match kind {
+            0 => {
+                let (s, r) = ((z as usize & 0xFFFF).min(SETPOINTS), (z as usize >> 16).min(READBACKS));
+                let (mut opened, said) = Board::open(x, y, s, r);
+                if said.is_ok() {
+                    opened.note(Did::opened_again);
+                }
+                for (new, old) in opened.tally.0.iter_mut().zip(&board.tally.0) {
+                    *new += old;
+                }
+                *board = opened;
+                answer(said, |_| Answer::Ok)
+            }
+            1 => answer(board.write(x, y as u16, lend(readbacks, setpoints, lent_r, code)), |_| Answer::Ok),
+            2 => answer(board.read(x), Answer::Value),
+            3 => answer(board.set(c, x, buffer, y, z, lend(setpoints, readbacks, lent_s, code)), |_| Answer::Ok),
+            4 => answer(board.arm(c), |_| Answer::Ok),
+            5 => answer(board.disarm(c), |_| Answer::Ok),
+            6 => {
+                let frame = (z as u64) << 32 | y as u64;
+                answer(board.reply(c, frame, lend(readbacks, setpoints, lent_r, code)), Answer::Reply)
+            }
+            7 | 8 => {
+                let [first, second] = two.map(|(from, len)| &readbacks[from..from + len]);
+                let told = board.retired(c, first, second);
+                if kind == 8 {
+                    return answer(told, |(_, length)| Answer::Length(length));
+                }
+                // "gives the empty part when refused"
+                Answer::Part(told.map_or(Vec::new(), |(is_second, length)| {
+                    (if is_second { second } else { first })[..length].to_vec()
+                }))
+            }
+            9 => {
+                let mut sent = Vec::new();
+                for t in 1..=x & 0xFFFF {
+                    match board.tick(lend(setpoints, readbacks, lent_s, code)) {
+                        Ok(frames) => note(&mut sent, t, frames),
+                        Err(n) => return Answer::Refused(n),
+                    }
+                }
+                Answer::Ticks(sent)
+            }
+            10 => answer(board.event(x as u8, lend(readbacks, setpoints, lent_r, code)), |_| Answer::Ok),
+            11 => answer(board.change_user(x), |_| Answer::Ok),
+            12 => Answer::Level(board.interrupt_level()),
+            13 => {
+                let pool = if c == 0 { setpoints } else { readbacks };
+                match pool.get_mut(x as usize) {
+                    Some(word) => {
+                        *word = y;
+                        Answer::Ok
+                    }
+                    None => Answer::None,
+                }
+            }
+            _ => Answer::None,
+        }
+    }
+
+    /// FNV-1a, 64 bits, over both pools' words as little-endian bytes.
+    fn digest(&self) -> u64 {
+        let words = self.setpoints.iter().chain(&self.readbacks);
+        words.flat_map(|w| w.to_le_bytes()).fold(0xCBF2_9CE4_8422_2325, |h, byte| {
+            (h ^ byte as u64).wrapping_mul(0x0000_0100_0000_01B3)
+        })
+    }
+}
+
+pub struct Told {
+    pub text: String,
+    pub answers: Vec<Answer>,
+    pub bench: Option<Bench>,
+}
+
+pub fn tell(script: &[u8]) -> Told {
+    if script.len() < 16 || script.len() > 65_536 || script.len() % 16 != 0 {
+        return Told { text: "script bad\n".into(), answers: Vec::new(), bench: None };
+    }
+    let (mut bench, opened) = Bench::new(&script[..16]);
+    let mut text = format!("0 {opened}\n");
+    let mut answers = vec![opened];
+    for (k, record) in script[16..].chunks(16).enumerate() {
+        let a = bench.step(record);
+        writeln!(text, "{} {a}", k + 1).unwrap();
+        answers.push(a);
+    }
+    let level = bench.board.interrupt_level();
+    write!(text, "end {:016X} level {level} retired", bench.digest()).unwrap();
+    for c in 0..4 {
+        write!(text, " {}", bench.board.retired_count(c)).unwrap();
+    }
+    for c in 1..=4 {
+        write!(text, "\nchannel {c}").unwrap();
+        for offset in readable() {
+            write!(text, " {:04X}", bench.board.read(0x800 * c + offset).unwrap()).unwrap();
+        }
+    }
+    text.push_str("\nmain");
+    for address in [0x22, 0x24, 0x26, 0x28, 0x2A] {
+        write!(text, " {:04X}", bench.board.read(address).unwrap()).unwrap();
+    }
+    text.push('\n');
+    Told { text, answers, bench: Some(bench) }
+}
