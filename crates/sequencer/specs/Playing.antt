@@ -19,6 +19,7 @@ use Rattle.sequencer.specs.declared.Transmission.{Transmission}
 use Rattle.sequencer.specs.declared.Transmission.the-variants as transmission
 use Rattle.sequencer.specs.declared.Ticked.{Ticked}
 
+-- "idle or not"
 abbrev pub isIdle : Stage → Bool
 isIdle stage.Idle = true
 isIdle stage.Starting = false
@@ -27,6 +28,7 @@ isIdle (stage.Paused k) = false
 isIdle stage.Resuming = false
 isIdle stage.Ended = false
 
+-- Start was loaded, and the first word has not left: the next send is the "first send of the function's first word"
 abbrev pub isStarting : Stage → Bool
 isStarting stage.Idle = false
 isStarting stage.Starting = true
@@ -53,9 +55,11 @@ isEnded (stage.Paused k) = false
 isEnded stage.Resuming = false
 isEnded stage.Ended = true
 
+-- "the last send since idle (if any ..)": none
 abbrev pub nothingSent : LastSend
 nothingSent = record { sent = false; first = false; paused = false; last = false; replies = 0 }
 
+-- "channels disarmed", nothing under way, nothing counted
 abbrev pub opened : Sequencer
 opened =
     record { armed = false; stage = stage.Idle; left = 0; resume = 0; index = 0; word = 0; last = nothingSent; count = 0 }
@@ -135,6 +139,7 @@ loadedResume s delay =
       count = s .count;
     }
 
+-- a resume ends its own pause alone
 abbrev pub resumedAt : Stage → Sequencer → ℕ → ℕ → Sequencer
 resumedAt stage.Idle s pause delay = s
 resumedAt stage.Starting s pause delay = s
@@ -168,6 +173,7 @@ sentAs s due period k =
       transmission = transmission.Word due (conditionOf k);
     }
 
+-- the word due is sent, of the kind that its bits and its index give it
 unfoldable pub sentNext : Sequencer → ℕ → ℕ → ℕ → Ticked
 sentNext s due n period = sentAs s due period (kindOf due (atEnd n (s .index)))
 
@@ -188,6 +194,7 @@ repeated s period =
       transmission = transmission.Word (s .word) 0;
     }
 
+-- a tick on which nothing leaves
 abbrev pub quiet : Sequencer → Ticked
 quiet s = record { sequencer = s; transmission = transmission.Nothing }
 
@@ -231,6 +238,7 @@ resuming s due n period =
     cond (leb (s .resume) 1) (sentNext s due n period)
     (cond (leb (s .resume) 10) (quiet (withResume s (s .resume - 1))) (repeating (withResume s (s .resume - 1)) period))
 
+-- what a tick does, by what is under way
 abbrev pub tickedAt : Stage → Sequencer → ℕ → ℕ → ℕ → Ticked
 tickedAt stage.Idle s due n period = quiet s
 tickedAt stage.Starting s due n period = advancing s due n period

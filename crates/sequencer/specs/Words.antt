@@ -42,11 +42,13 @@ conditionOf kind.Plain = 0
 conditionOf (kind.Pause k) = pauseBit k
 conditionOf kind.Last = endOfFunction
 
+-- "D30 paused" of a send of this kind
 abbrev pub pauses : Kind → Bool
 pauses kind.Plain = false
 pauses (kind.Pause k) = true
 pauses kind.Last = false
 
+-- "D29 last" of a send of this kind
 abbrev pub ends : Kind → Bool
 ends kind.Plain = false
 ends (kind.Pause k) = false

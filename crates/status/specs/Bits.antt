@@ -8,6 +8,7 @@ use lib.Dec.{eqb}
 abbrev pub bitAt : ℕ → ℕ → Bool
 bitAt word n = eqb (word / 2 ^ n % 2) 1
 
+-- a bit as a number
 abbrev pub bitOf : Bool → ℕ
 bitOf true = 1
 bitOf false = 0

@@ -42,6 +42,7 @@ clearedIn l = record { bits = replicate 16 false; main = l .main }
 abbrev pub takenIn : Latches → Latches
 takenIn l = record { bits = l .bits; main = false }
 
+-- "all registers 0", both Main bits clear
 abbrev pub opened : Status
 opened = record { enable = 0; interrupt = none; polling = none }
 
@@ -58,6 +59,7 @@ latched s bit =
 abbrev pub keptEnable : ℕ → ℕ
 keptEnable value = value / 16 * 16 + value % 8
 
+-- a write to 00
 abbrev pub enabled : Status → ℕ → Status
 enabled s value = record { enable = keptEnable value; interrupt = s .interrupt; polling = s .polling }
 
