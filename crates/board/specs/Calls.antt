@@ -10,18 +10,18 @@ use Rattle.refusal.specs.declared.Refusal.the-variants as refusal
 use Rattle.register_map.specs.Addresses.{Named, named, main, channel, nothing}
 use Rattle.register_map.specs.AccessRule.{mainAccess}
 use Rattle.register_map.specs.Verdicts.{readRefusal, writeRefusal}
-use Rattle.life.specs.declared.Channel.{Channel}
-use Rattle.life.specs.Answers.{Answer}
-use Rattle.life.specs.Answers as ans
-use Rattle.life.specs.Life as life
+use Rattle.channel_core.specs.declared.Channel.{Channel}
+use Rattle.channel_core.specs.Answers.{Answer}
+use Rattle.channel_core.specs.Answers as ans
+use Rattle.channel_core.specs.Behaviour as core
 use Rattle.channel.specs.Calls.{unless, outside}
 use Rattle.channel.specs.Calls as one
-use Rattle.channel.specs.Alone.{userRefusal}
+use Rattle.channel.specs.OneChannel.{userRefusal}
 use Rattle.board_state.specs.declared.Board.{Board}
-use Rattle.board_state.specs.State.{opened, chan, put, withUser, eventCame}
+use Rattle.board_state.specs.State.{opened, channelAt, withChannelAt, withUser, eventCame}
 use Rattle.board_state.specs.Main.{mainWritten, mainValue, mainRead}
 use Rattle.board.specs.Parts.{own, withOwn}
-use Rattle.board.specs.Answers.{Said}
+use Rattle.board.specs.Answers.{BoardAnswer}
 use Rattle.board.specs.Answers as said
 
 -- sizes of a channel's part
@@ -74,7 +74,7 @@ openAnswer n m setpoints readbacks = unless (openRefusal n m setpoints readbacks
 
 abbrev pub writeBoardAt : Named → Board → ℕ → Board
 writeBoardAt (main offset) b value = cond (eqb (writeRefusal (mainAccess offset)) 0) (mainWritten b offset value) b
-writeBoardAt (channel number offset) b value = put b number (one.writtenOf (chan b number) offset value)
+writeBoardAt (channel number offset) b value = withChannelAt b number (one.writtenOf (channelAt b number) offset value)
 writeBoardAt nothing b value = b
 
 abbrev pub writeAnswerAt : Named → ℕ → Answer
@@ -85,7 +85,7 @@ writeAnswerAt nothing value = unmapped
 abbrev pub writeWordsAt : Named → Board → List ℕ → ℕ → List ℕ
 writeWordsAt (main offset) b s value = s
 writeWordsAt (channel number offset) b s value =
-    withOwn s (readbackSize b) number (one.writtenWords (chan b number) (own s (readbackSize b) number) (b .m) offset value)
+    withOwn s (readbackSize b) number (one.writtenWords (channelAt b number) (own s (readbackSize b) number) (b .m) offset value)
 writeWordsAt nothing b s value = s
 
 unfoldable pub writeBoard : Board → ℕ → ℕ → ℕ → Board
@@ -101,12 +101,12 @@ writeWords b s address value = cond (readbacksFit b (length s)) (writeWordsAt (n
 
 abbrev pub readBoardAt : Named → Board → Board
 readBoardAt (main offset) b = cond (eqb (readRefusal (mainAccess offset)) 0) (mainRead b offset) b
-readBoardAt (channel number offset) b = put b number (one.readOf (chan b number) offset)
+readBoardAt (channel number offset) b = withChannelAt b number (one.readOf (channelAt b number) offset)
 readBoardAt nothing b = b
 
 abbrev pub readAnswerAt : Named → Board → Answer
 readAnswerAt (main offset) b = unless (readRefusal (mainAccess offset)) (ans.value (mainValue b offset))
-readAnswerAt (channel number offset) b = one.readAnswer (chan b number) offset
+readAnswerAt (channel number offset) b = one.readAnswer (channelAt b number) offset
 readAnswerAt nothing b = unmapped
 
 unfoldable pub readBoard : Board → ℕ → Board
@@ -120,7 +120,7 @@ readAnswer b address = readAnswerAt (named address) b
 unfoldable pub setpointAnswer : Board → ℕ → ℕ → ℕ → ℕ → ℕ → Answer
 setpointAnswer b lent number user buffer index =
     cond (setpointsFit b lent)
-    (cond (noChannel number) outOfRange (one.setpointAnswer (chan b number) (b .n) user buffer index))
+    (cond (noChannel number) outOfRange (one.setpointAnswer (channelAt b number) (b .n) user buffer index))
     sizeMismatch
 
 unfoldable pub setpointWords : Board → List ℕ → ℕ → ℕ → ℕ → ℕ → ℕ → List ℕ
@@ -128,16 +128,16 @@ setpointWords b s number user buffer index word =
     cond (setpointsFit b (length s))
     (cond (noChannel number) s
     (withOwn s (setpointSize b) number
-    (one.setpointWords (chan b number) (own s (setpointSize b) number) (b .n) user buffer index word)))
+    (one.setpointWords (channelAt b number) (own s (setpointSize b) number) (b .n) user buffer index word)))
     s
 
 -- ---- Arm, disarm
 
 unfoldable pub armBoard : Board → ℕ → Board
-armBoard b number = cond (noChannel number) b (put b number (one.armedOf (chan b number)))
+armBoard b number = cond (noChannel number) b (withChannelAt b number (one.armedOf (channelAt b number)))
 
 unfoldable pub disarmBoard : Board → ℕ → Board
-disarmBoard b number = cond (noChannel number) b (put b number (one.disarmedOf (chan b number)))
+disarmBoard b number = cond (noChannel number) b (withChannelAt b number (one.disarmedOf (channelAt b number)))
 
 unfoldable pub armAnswer : ℕ → Answer
 armAnswer number = cond (noChannel number) outOfRange ans.done
@@ -146,18 +146,18 @@ armAnswer number = cond (noChannel number) outOfRange ans.done
 
 unfoldable pub replyBoard : Board → ℕ → ℕ → ℕ → Board
 replyBoard b lent number f =
-    cond (readbacksFit b lent) (cond (noChannel number) b (put b number (life.replyOf (chan b number) (b .m) f))) b
+    cond (readbacksFit b lent) (cond (noChannel number) b (withChannelAt b number (core.replyOf (channelAt b number) (b .m) f))) b
 
 unfoldable pub replyAnswer : Board → ℕ → ℕ → ℕ → Answer
 replyAnswer b lent number f =
-    cond (readbacksFit b lent) (cond (noChannel number) outOfRange (life.replyAnswer (chan b number) (b .m) f)) sizeMismatch
+    cond (readbacksFit b lent) (cond (noChannel number) outOfRange (core.replyAnswer (channelAt b number) (b .m) f)) sizeMismatch
 
 unfoldable pub replyWords : Board → List ℕ → ℕ → ℕ → List ℕ
 replyWords b s number f =
     cond (readbacksFit b (length s))
     (cond (noChannel number) s
     (withOwn s (readbackSize b) number
-    (life.replyWords (chan b number) (own s (readbackSize b) number) (b .m) (b .user) f)))
+    (core.replyWords (channelAt b number) (own s (readbackSize b) number) (b .m) (b .user) f)))
     s
 
 -- ---- Retired readbacks, and the call that answers the number or the part's length
@@ -169,7 +169,7 @@ retiredRefusal b number first second =
 
 unfoldable pub retiredWords : Board → ℕ → List ℕ → List ℕ → List ℕ
 retiredWords b number first second =
-    cond (noChannel number) [] (one.retiredWords (chan b number) (b .m) first second)
+    cond (noChannel number) [] (one.retiredWords (channelAt b number) (b .m) first second)
 
 unfoldable pub retiredAnswer : Board → ℕ → List ℕ → List ℕ → Answer
 retiredAnswer b number first second =
@@ -196,29 +196,29 @@ retiredLength b number first second =
 -- ---- Tick: every channel, over its part of the setpoints
 
 unfoldable pub tickChannel : Board → List ℕ → ℕ → Channel
-tickChannel b s number = life.tickOf (chan b number) (own s (setpointSize b) number) (b .n) (b .user)
+tickChannel b s number = core.tickOf (channelAt b number) (own s (setpointSize b) number) (b .n) (b .user)
 
 unfoldable pub tickFrame : Board → List ℕ → ℕ → Answer
-tickFrame b s number = life.tickAnswer (chan b number) (own s (setpointSize b) number) (b .n) (b .user)
+tickFrame b s number = core.tickAnswer (channelAt b number) (own s (setpointSize b) number) (b .n) (b .user)
 
 unfoldable pub tickBoard : Board → List ℕ → Board
 tickBoard b s =
     cond (setpointsFit b (length s))
-    (put (put (put (put b 1 (tickChannel b s 1)) 2 (tickChannel b s 2)) 3 (tickChannel b s 3)) 4 (tickChannel b s 4))
+    (withChannelAt (withChannelAt (withChannelAt (withChannelAt b 1 (tickChannel b s 1)) 2 (tickChannel b s 2)) 3 (tickChannel b s 3)) 4 (tickChannel b s 4))
     b
 
-unfoldable pub tickSaid : Board → List ℕ → Said
-tickSaid b s =
+unfoldable pub tickBoardAnswer : Board → List ℕ → BoardAnswer
+tickBoardAnswer b s =
     cond (setpointsFit b (length s)) (said.each (tickFrame b s 1) (tickFrame b s 2) (tickFrame b s 3) (tickFrame b s 4)) (said.one sizeMismatch)
 
 -- ---- Event: channel by channel, each over its part of the readbacks
 
 unfoldable pub eventBoardAt : Board → ℕ → ℕ → Board
-eventBoardAt b code number = put b number (life.eventOf (chan b number) (b .user) code)
+eventBoardAt b code number = withChannelAt b number (core.eventOf (channelAt b number) (b .user) code)
 
 unfoldable pub eventWordsAt : Board → List ℕ → ℕ → ℕ → List ℕ
 eventWordsAt b s code number =
-    withOwn s (readbackSize b) number (life.eventWords (chan b number) (own s (readbackSize b) number) (b .m) code)
+    withOwn s (readbackSize b) number (core.eventWords (channelAt b number) (own s (readbackSize b) number) (b .m) code)
 
 -- after channels 1 to k
 unfoldable pub eventBoards : Board → ℕ → ℕ → Board
@@ -241,7 +241,7 @@ eventWords b s code = cond (readbacksFit b (length s)) (eventParts b s code 4) s
 -- ---- User change
 
 unfoldable pub changedAt : Board → ℕ → Board
-changedAt b number = put b number (life.userChanged (chan b number))
+changedAt b number = withChannelAt b number (core.userChanged (channelAt b number))
 
 unfoldable pub userBoard : Board → ℕ → Board
 userBoard b user =

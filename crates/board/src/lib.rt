@@ -2,17 +2,17 @@
 use board_state::Board;
 use channel::Outcome;
 use channel::PartLength;
-use life::Line;
-use life::Receipt;
+use channel_core::Line;
+use channel_core::Receipt;
 use refusal::Refusal;
 ghost use mathlib.Core.Path.{_≡_};
 ghost use Prim.Native.Nat.{_+_, _-_, _*_, _<_, _≤_};
 ghost use lib.ListN.{length};
-ghost use Rattle.life.specs.Answers.{receiptOf, lineOf};
+ghost use Rattle.channel_core.specs.Answers.{receiptOf, lineOf};
 ghost use Rattle.channel.specs.Answers.{outcomeOf, lengthOf};
 ghost use Rattle.board_state.specs.Main.{levelOf};
 ghost use Rattle.board.specs.Answers.{framesOf};
-ghost use Rattle.board.specs.Calls.{sizeMismatch, closed, openBoard, openAnswer, setpointAnswer, setpointWords, armBoard, disarmBoard, armAnswer, replyBoard, replyAnswer, replyWords, partOf, retiredAnswer, retiredLength, tickChannel, tickFrame, tickBoard, tickSaid, eventBoardAt, eventWordsAt, eventBoard, eventAnswer, eventWords, changedAt, userBoard, userAnswer};
+ghost use Rattle.board.specs.Calls.{sizeMismatch, closed, openBoard, openAnswer, setpointAnswer, setpointWords, armBoard, disarmBoard, armAnswer, replyBoard, replyAnswer, replyWords, partOf, retiredAnswer, retiredLength, tickChannel, tickFrame, tickBoard, tickBoardAnswer, eventBoardAt, eventWordsAt, eventBoard, eventAnswer, eventWords, changedAt, userBoard, userAnswer};
 
 // The answer of a tick: each channel's frame or none.
 pub enum Frames {
@@ -191,7 +191,7 @@ pub fn retired_length<'a>(b: Board, number: u32, one: &'a [u32], two: &'a [u32])
 }
 
 // One channel's tick, over its part of the setpoints.
-fn tick_channel(b: Board, setpoints: &[u32], number: u8) -> life::Ticked
+fn tick_channel(b: Board, setpoints: &[u32], number: u8) -> channel_core::Ticked
     requires { ⌜ (1 ≤ number) × (number ≤ 4) × (length (now setpoints) ≡ b .n * 64) ⌝ }
     ensures { λ r. ⌜ (r .channel ≡ tickChannel b (now (setpoints .entry)) number) × (lineOf (r .line) ≡ tickFrame b (now (setpoints .entry)) number) ⌝ }
 {
@@ -204,7 +204,7 @@ fn tick_channel(b: Board, setpoints: &[u32], number: u8) -> life::Ticked
 }
 
 pub fn tick(b: Board, setpoints: &[u32]) -> Ticked
-    ensures { λ r. ⌜ (r .board ≡ tickBoard b (now (setpoints .entry))) × (framesOf (r .frames) ≡ tickSaid b (now (setpoints .entry))) ⌝ }
+    ensures { λ r. ⌜ (r .board ≡ tickBoard b (now (setpoints .entry))) × (framesOf (r .frames) ≡ tickBoardAnswer b (now (setpoints .entry))) ⌝ }
 {
     if setpoints.len() != b.n as usize * 64 {
         return Ticked {

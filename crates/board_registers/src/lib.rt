@@ -12,7 +12,7 @@ ghost use lib.ListN.{length};
 ghost use Rattle.channel.specs.Answers.{outcomeOf, shownOf};
 ghost use Rattle.channel.specs.Calls.{writtenOf, writtenAnswer, writtenWords};
 ghost use Rattle.register_map.specs.Addresses.{main, channel};
-ghost use Rattle.board_state.specs.State.{chan, put};
+ghost use Rattle.board_state.specs.State.{channelAt, withChannelAt};
 ghost use Rattle.board.specs.Parts.{own, withOwn};
 ghost use Rattle.board.specs.Calls.{readbackSize, writeBoardAt, writeAnswerAt, writeBoard, writeAnswer, writeWords, readBoardAt, readAnswerAt, readBoard, readAnswer};
 
@@ -32,7 +32,7 @@ fn base(number: u8, size: usize) -> usize
 // A write to a channel's register, over its part of the readbacks.
 fn write_channel(b: Board, readbacks: &mut [u32], number: u8, offset: u16, value: u16) -> Written
     requires { ⌜ (1 ≤ number) × (number ≤ 4) × (length (now readbacks) ≡ b .m * 8) ⌝ }
-    ensures { λ r. ⌜ (r .board ≡ put b number (writtenOf (chan b number) offset value)) × (outcomeOf (r .outcome) ≡ writtenAnswer offset value) × (now (readbacks .exit) ≡ withOwn (now (readbacks .entry)) (readbackSize b) number (writtenWords (chan b number) (own (now (readbacks .entry)) (readbackSize b) number) (b .m) offset value)) ⌝ }
+    ensures { λ r. ⌜ (r .board ≡ withChannelAt b number (writtenOf (channelAt b number) offset value)) × (outcomeOf (r .outcome) ≡ writtenAnswer offset value) × (now (readbacks .exit) ≡ withOwn (now (readbacks .entry)) (readbackSize b) number (writtenWords (channelAt b number) (own (now (readbacks .entry)) (readbackSize b) number) (b .m) offset value)) ⌝ }
 {
     let m = b.m;
     let c = b.channel(number);

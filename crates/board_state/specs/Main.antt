@@ -4,11 +4,11 @@ use mathlib.Core.Bool.{Bool, true, false, cond, _&&_, _||_}
 use lib.Dec.{eqb}
 use Rattle.status.specs.Bits.{bitAt, bitOf}
 use Rattle.status.specs.Latching.{keptEnable}
-use Rattle.life.specs.declared.Channel.{Channel}
+use Rattle.channel_core.specs.declared.Channel.{Channel}
 use Rattle.channel.specs.Calls.{mainBit, mainTaken}
 use Rattle.board_state.specs.declared.Main.{Main}
 use Rattle.board_state.specs.declared.Board.{Board}
-use Rattle.board_state.specs.State.{chan, put, withMain}
+use Rattle.board_state.specs.State.{channelAt, withChannelAt, withMain}
 
 -- "Both statuses: D11 is 1, D10–D8 user less 1, D7–D4 channels 4–1, D3 an event came, rest 0."
 unfoldable pub mainWord : ℕ → Bool → Bool → Bool → Bool → Bool → ℕ
@@ -22,8 +22,8 @@ eventBit x polling = cond polling (x .polling) (x .interrupt)
 -- 28, or 2A
 unfoldable pub mainStatus : Board → Bool → ℕ
 mainStatus b polling =
-    mainWord (b .user) (mainBit (chan b 1) polling) (mainBit (chan b 2) polling) (mainBit (chan b 3) polling)
-    (mainBit (chan b 4) polling) (eventBit (b .main) polling)
+    mainWord (b .user) (mainBit (channelAt b 1) polling) (mainBit (channelAt b 2) polling) (mainBit (channelAt b 3) polling)
+    (mainBit (channelAt b 4) polling) (eventBit (b .main) polling)
 
 abbrev pub withoutEvent : Main → Bool → Main
 withoutEvent x polling =
@@ -33,7 +33,7 @@ withoutEvent x polling =
 
 -- "Reading a status clears the latched bits (.. D7–D3 of Main) of that register only."
 unfoldable pub takenAt : Board → ℕ → Bool → Board
-takenAt b number polling = put b number (mainTaken (chan b number) polling)
+takenAt b number polling = withChannelAt b number (mainTaken (channelAt b number) polling)
 
 unfoldable pub statusRead : Board → Bool → Board
 statusRead b polling =
@@ -77,7 +77,7 @@ enabledBit c enable bit = mainBit c false && bitAt enable bit
 unfoldable pub levelOf : Board → ℕ
 levelOf b =
     cond
-    (enabledBit (chan b 1) (b .main .enable) 4
-    || (enabledBit (chan b 2) (b .main .enable) 5
-    || (enabledBit (chan b 3) (b .main .enable) 6 || enabledBit (chan b 4) (b .main .enable) 7)))
+    (enabledBit (channelAt b 1) (b .main .enable) 4
+    || (enabledBit (channelAt b 2) (b .main .enable) 5
+    || (enabledBit (channelAt b 3) (b .main .enable) 6 || enabledBit (channelAt b 4) (b .main .enable) 7)))
     (b .main .level) 0

@@ -3,8 +3,8 @@ use Prim.Native.Nat.{ℕ, _+_, _-_, _*_}
 use mathlib.Core.Bool.{Bool, true, false}
 use mathlib.Core.List.{List, [], _∷_, _++_}
 use lib.ListN.{getD, set, take, drop, replicate}
-use Rattle.life.specs.declared.Channel.{Channel}
-use Rattle.life.specs.State as channel
+use Rattle.channel_core.specs.declared.Channel.{Channel}
+use Rattle.channel_core.specs.State as channel
 use Rattle.board_state.specs.declared.Main.{Main}
 use Rattle.board_state.specs.declared.Board.{Board}
 
@@ -20,14 +20,14 @@ opened n m =
     }
 
 -- channel 1 to 4
-abbrev pub chan : Board → ℕ → Channel
-chan b number = getD (b .channels) (number - 1) channel.opened
+abbrev pub channelAt : Board → ℕ → Channel
+channelAt b number = getD (b .channels) (number - 1) channel.opened
 
 abbrev pub withChannels : Board → List Channel → Board
 withChannels b cs = record { n = b .n; m = b .m; user = b .user; main = b .main; channels = cs }
 
-abbrev pub put : Board → ℕ → Channel → Board
-put b number c = withChannels b (set (b .channels) (number - 1) c)
+abbrev pub withChannelAt : Board → ℕ → Channel → Board
+withChannelAt b number c = withChannels b (set (b .channels) (number - 1) c)
 
 abbrev pub withUser : Board → ℕ → Board
 withUser b user = record { n = b .n; m = b .m; user = user; main = b .main; channels = b .channels }

@@ -1,10 +1,10 @@
 // The board's state: depths, current user, Main registers and four channels. It holds no rule of a channel's life.
-use life::Channel;
+use channel_core::Channel;
 ghost use mathlib.Core.Path.{_≡_};
 ghost use Prim.Native.Nat.{_*_, _≤_};
 ghost use Rattle.status.specs.Bits.{bitOf};
 ghost use Rattle.channel.specs.Calls.{mainBit};
-ghost use Rattle.board_state.specs.State.{opened, chan, put, withUser, eventCame};
+ghost use Rattle.board_state.specs.State.{opened, channelAt, withChannelAt, withUser, eventCame};
 ghost use Rattle.board_state.specs.Main.{mainWord, mainStatus, takenAt, statusRead, mainStored, mainWritten, mainValue, mainRead, levelOf, enabledBit};
 
 // Main's registers: Level, Vector, Enable, and in each status copy whether an event came.
@@ -39,7 +39,7 @@ fn main_word(user: u8, one: bool, two: bool, three: bool, four: bool, event: boo
     ensures { λ r. ⌜ r ≡ mainWord user one two three four event ⌝ }
 {
     let channels = weigh(four, 128) + weigh(three, 64) + weigh(two, 32) + weigh(one, 16);
-    2048 + registers::below(user) as u16 % 8 * 256 + channels + weigh(event, 8)
+    2048 + registers::zero_based(user) as u16 % 8 * 256 + channels + weigh(event, 8)
 }
 
 // A channel's bit in a Main status.
@@ -91,9 +91,9 @@ impl Board {
 
     // Channel 1 to 4.
     pub fn channel(self, number: u8) -> Channel
-        ensures { λ r. ⌜ r ≡ chan self number ⌝ }
+        ensures { λ r. ⌜ r ≡ channelAt self number ⌝ }
     {
-        let i = registers::below(number) as usize;
+        let i = registers::zero_based(number) as usize;
         if i < 4 {
             return self.channels[i];
         }
@@ -102,9 +102,9 @@ impl Board {
 
     // The board with channel 1 to 4 replaced.
     pub fn with_channel(self, number: u8, c: Channel) -> Board
-        ensures { λ r. ⌜ r ≡ put self number c ⌝ }
+        ensures { λ r. ⌜ r ≡ withChannelAt self number c ⌝ }
     {
-        let i = registers::below(number) as usize;
+        let i = registers::zero_based(number) as usize;
         let mut b = self;
         if i < 4 {
             b.channels[i] = c;
@@ -217,7 +217,7 @@ impl Board {
 
     // Whether a channel's bit of Main's Interrupt Status is set and enabled.
     fn interrupts(self, number: u8, bit: u8) -> bool
-        ensures { λ r. ⌜ r ≡ enabledBit (chan self number) (self .main .enable) bit ⌝ }
+        ensures { λ r. ⌜ r ≡ enabledBit (channelAt self number) (self .main .enable) bit ⌝ }
     {
         if main_bit(self.channel(number), false) {
             let x = self.main;

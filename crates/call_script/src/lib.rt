@@ -9,8 +9,8 @@ use board_state::Board;
 use channel::Outcome;
 use channel::PartLength;
 use channel::Shown;
-use life::Line;
-use life::Receipt;
+use channel_core::Line;
+use channel_core::Receipt;
 use refusal::Refusal;
 use script::Record;
 

@@ -2,8 +2,8 @@
 use mathlib.Core.Path.{_≡_, refl, sym, ap}
 use mathlib.Core.Bool.{Bool, true}
 use Rattle.sequencer.specs.Playing as seq
-use Rattle.life.specs.declared.Channel.{Channel}
-use Rattle.life.specs.State.{withSequencer}
+use Rattle.channel_core.specs.declared.Channel.{Channel}
+use Rattle.channel_core.specs.State.{withSequencer}
 use Rattle.channel.specs.Calls.{readEffect, armedOf, disarmedOf}
 
 pub read-02-keeps-04 : (c : Channel) → readEffect c 0x02 .status .polling ≡ c .status .polling

@@ -6,7 +6,7 @@ use native.Mathlib.Omega.{arith}
 use lib.Dec.{eqb, ltb}
 use borrow.Author.Tests.{ltb-false, leb-false, eq-eqb, eqb-true, eqb-false}
 use Rattle.status.specs.Bits.{bitOf}
-use Rattle.life.specs.declared.Channel.{Channel}
+use Rattle.channel_core.specs.declared.Channel.{Channel}
 use Rattle.channel.specs.Calls.{outside, setpointRefusal}
 
 -- false is not true

@@ -1,7 +1,7 @@
 -- Which of document 01's numbers and values each case of an answer in the code stands for.
 use Rattle.refusal.specs.Refusals.{numberOf}
-use Rattle.life.specs.Answers.{Answer}
-use Rattle.life.specs.Answers as ans
+use Rattle.channel_core.specs.Answers.{Answer}
+use Rattle.channel_core.specs.Answers as ans
 use Rattle.channel.specs.declared.Outcome.{Outcome}
 use Rattle.channel.specs.declared.Outcome.the-variants as outcome
 use Rattle.channel.specs.declared.Shown.{Shown}

@@ -9,19 +9,19 @@ use Rattle.refusal.specs.Refusals.{numberOf}
 use Rattle.refusal.specs.declared.Refusal.the-variants as refusal
 use Rattle.register_map.specs.AccessRule.{channelAccess}
 use Rattle.register_map.specs.Verdicts.{readRefusal, writeRefusal}
-use Rattle.status.specs.Bits.{bitAt, wordOf}
+use Rattle.status.specs.Bits.{bitAt, wordOfBits}
 use Rattle.status.specs.declared.Status.{Status}
 use Rattle.status.specs.declared.Latches.{Latches}
 use Rattle.status.specs.Latching.{enabled, clearedIn, takenIn}
 use Rattle.registers.specs.declared.Registers.{Registers}
-use Rattle.registers.specs.Map.{stored, loaded, secondOf, readbackPlace}
+use Rattle.registers.specs.Map.{stored, loaded, secondActive, readbackPlace}
 use Rattle.sequencer.specs.Playing as seq
 use Rattle.readback.specs.Storing.{retiredPart}
-use Rattle.life.specs.declared.Channel.{Channel}
-use Rattle.life.specs.Answers.{Answer}
-use Rattle.life.specs.Answers as ans
-use Rattle.life.specs.State.{reset, withStatus, withRegisters, withSequencer}
-use Rattle.life.specs.Life.{commanded, commandWords, setpointPlace}
+use Rattle.channel_core.specs.declared.Channel.{Channel}
+use Rattle.channel_core.specs.Answers.{Answer}
+use Rattle.channel_core.specs.Answers as ans
+use Rattle.channel_core.specs.State.{reset, withStatus, withRegisters, withSequencer}
+use Rattle.channel_core.specs.Behaviour.{commanded, commandWords, setpointPlace}
 
 -- refused with this number, or not
 abbrev pub unless : ℕ → Answer → Answer
@@ -76,8 +76,8 @@ readEffect c offset =
 unfoldable pub readValue : Channel → ℕ → ℕ
 readValue c offset =
     cond (eqb offset 0x00) (c .status .enable)
-    (cond (eqb offset 0x02) (wordOf (c .status .interrupt .bits))
-    (cond (eqb offset 0x04) (wordOf (c .status .polling .bits)) (loaded (c .registers) offset)))
+    (cond (eqb offset 0x02) (wordOfBits (c .status .interrupt .bits))
+    (cond (eqb offset 0x04) (wordOfBits (c .status .polling .bits)) (loaded (c .registers) offset)))
 
 -- the call: the channel after it, and its answer
 unfoldable pub readOf : Channel → ℕ → Channel
@@ -94,7 +94,7 @@ outside low high x = ltb x low || ltb high x
 
 -- the active one of a user's setpoint buffers, 1 or 2
 abbrev pub activeBuffer : Registers → ℕ → ℕ
-activeBuffer r user = cond (secondOf r (user - 1)) 2 1
+activeBuffer r user = cond (secondActive r (user - 1)) 2 1
 
 -- 2, then 6: "setpoint write to the active buffer of an armed channel", the named user's
 unfoldable pub setpointRefusal : Channel → ℕ → ℕ → ℕ → ℕ → ℕ
@@ -132,7 +132,7 @@ retiredRefusal m one two = cond (eqb one m) (cond (eqb two m) 0 (numberOf refusa
 unfoldable pub retiredWords : Channel → ℕ → List ℕ → List ℕ → List ℕ
 retiredWords c m one two =
     cond (eqb (retiredRefusal m (length one) (length two)) 0)
-    (retiredPart (secondOf (c .registers) readbackPlace) (c .readbacks .retired) one two)
+    (retiredPart (secondActive (c .registers) readbackPlace) (c .readbacks .retired) one two)
     []
 
 -- what document 01 calls its twin: "answers the number or the part's length"

@@ -6,56 +6,27 @@ use lib.Dec.{eqb}
 use Rattle.status.specs.Bits.{bitAt}
 use Rattle.registers.specs.Map.{triggersOf, groupEndEvent}
 use Rattle.sequencer.specs.Playing.{isIdle}
-use Rattle.life.specs.Answers.{Answer}
-use Rattle.life.specs.Answers as ans
-use Rattle.channel.specs.Alone.{ChannelCall, Alone, refusalOf, move, says}
-use Rattle.channel.specs.Alone as call
+use Rattle.channel_core.specs.Answers.{Answer, isFrame, isReceived}
+use Rattle.channel.specs.OneChannel.{ChannelCall, OneChannel, refusalOf, transition, response}
+use Rattle.channel.specs.OneChannel as call
 
 -- one call: the state before it, the call, and what it answered
 pub record Entry : Type 0 where
-  pub before : Alone
+  pub before : OneChannel
   pub call : ChannelCall
   pub answer : Answer
 
-abbrev pub entry : Alone → ChannelCall → Entry
-entry o k = record { before = o; call = k; answer = says o k }
+abbrev pub entry : OneChannel → ChannelCall → Entry
+entry o k = record { before = o; call = k; answer = response o k }
 
-abbrev pub history : Alone → List ChannelCall → List Entry
+abbrev pub history : OneChannel → List ChannelCall → List Entry
 history o [] = []
-history o (k ∷ ks) = entry o k ∷ history (move o k) ks
+history o (k ∷ ks) = entry o k ∷ history (transition o k) ks
 
 -- ---- What an entry shows
 
--- a tick that answered a frame
-abbrev pub isFrame : Answer → Bool
-isFrame (ans.refused k) = false
-isFrame ans.done = false
-isFrame (ans.value v) = false
-isFrame (ans.bit b) = false
-isFrame (ans.frame f) = true
-isFrame ans.none = false
-isFrame ans.kept = false
-isFrame ans.lost = false
-isFrame ans.unsolicited = false
-isFrame (ans.part l) = false
-isFrame (ans.partLength k) = false
-
--- a reply that was answered kept or lost
-abbrev pub isReceived : Answer → Bool
-isReceived (ans.refused k) = false
-isReceived ans.done = false
-isReceived (ans.value v) = false
-isReceived (ans.bit b) = false
-isReceived (ans.frame f) = false
-isReceived ans.none = false
-isReceived ans.kept = true
-isReceived ans.lost = true
-isReceived ans.unsolicited = false
-isReceived (ans.part l) = false
-isReceived (ans.partLength k) = false
-
 -- whether a call, not refused, is a Group End: the Group End event's code, or Commands with D2
-abbrev pub asksGroupEnd : Alone → ChannelCall → Bool
+abbrev pub asksGroupEnd : OneChannel → ChannelCall → Bool
 asksGroupEnd o (call.writeRegister lent offset value) = eqb offset 0x08 && bitAt value 2
 asksGroupEnd o (call.readRegister offset) = false
 asksGroupEnd o (call.writeSetpoint lent user buffer index word) = false
@@ -99,7 +70,7 @@ resets e = cond (isRefused e) false (asksReset (e .call))
 
 -- it leaves the channel idle, or idled it on the way: a Group End whose event or command then started it again
 abbrev pub idles : Entry → Bool
-idles e = endsGroup e || isIdle (move (e .before) (e .call) .channel .sequencer .stage)
+idles e = endsGroup e || isIdle (transition (e .before) (e .call) .channel .sequencer .stage)
 
 -- ---- Counted along a history
 

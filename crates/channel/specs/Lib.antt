@@ -1,4 +1,4 @@
 pub mod Answers
 pub mod Calls
-pub mod Alone
+pub mod OneChannel
 pub mod History

@@ -1,5 +1,5 @@
 // The calls that name a channel, over the channel by value and its own part of the lent memory. They know no board and no other channel.
-use life::Channel;
+use channel_core::Channel;
 use refusal::Refusal;
 use register_map::Verdict;
 use registers::Registers;
@@ -113,12 +113,12 @@ fn read_value(c: Channel, offset: u16) -> u16
     if offset == 0x02 {
         let l = s.interrupt;
         let bits = l.bits;
-        return status::word_of(bits);
+        return status::word_of_bits(bits);
     }
     if offset == 0x04 {
         let l = s.polling;
         let bits = l.bits;
-        return status::word_of(bits);
+        return status::word_of_bits(bits);
     }
     let r = c.registers;
     r.loaded(offset)
@@ -176,7 +176,7 @@ pub fn is_outside(low: u32, high: u32, x: u32) -> bool
 fn active_buffer(r: Registers, user: u8) -> u32
     ensures { λ b. ⌜ b ≡ activeBuffer r user ⌝ }
 {
-    if r.second(user) {
+    if r.second_active(user) {
         return 2;
     }
     1
@@ -221,7 +221,7 @@ pub fn write_setpoint(
     let v = setpoint_check(c, n, user, buffer, index);
     match v {
         Verdict::Allowed => {
-            let at = life::setpoint_place((user - 1) as u8, buffer == 2, n, index);
+            let at = channel_core::setpoint_place((user - 1) as u8, buffer == 2, n, index);
             readback::store(words, at, word);
             Outcome::Done
         }
@@ -259,7 +259,7 @@ pub fn retired<'a>(c: Channel, m: u32, one: &'a [u32], two: &'a [u32]) -> &'a [u
     }
     let r = c.registers;
     let b = c.readbacks;
-    readback::retired_part(r.readback_second(), b.retired, one, two)
+    readback::retired_part(r.readback_second_active(), b.retired, one, two)
 }
 
 // The length of what `retired` gives, or the refusal.

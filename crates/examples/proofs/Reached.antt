@@ -5,14 +5,14 @@ use native.Mathlib.Omega.{arith}
 use Rattle.register_map.specs.AccessRule.{channelAccess}
 use Rattle.registers.specs.Map.{stored}
 use Rattle.sequencer.specs.Playing as seq
-use Rattle.life.specs.State.{opened}
+use Rattle.channel_core.specs.State.{opened}
 use Rattle.channel.specs.Calls.{registerRefusal, registerEffect, registerWords, setpointRefusal, setpointWords, armedOf}
-use Rattle.channel.specs.Alone.{refusalOf, effect, move}
+use Rattle.channel.specs.OneChannel.{refusalOf, effect, transition}
 use Rattle.examples.specs.Starred.{PauseOne}
 use Rattle.examples.specs.Reached.{pausing, Reached}
 
 pauses : (low : ℕ) → PauseOne (pausing low) 1
-unfolding move refusalOf effect registerRefusal registerEffect registerWords channelAccess stored setpointRefusal setpointWords armedOf seq.armed opened
+unfolding transition refusalOf effect registerRefusal registerEffect registerWords channelAccess stored setpointRefusal setpointWords armedOf seq.armed opened
 pauses low =
     record {
       armed = refl;
@@ -25,7 +25,7 @@ pauses low =
     }
 
 pub reached : Reached
-unfolding move refusalOf effect registerRefusal registerEffect registerWords channelAccess stored setpointRefusal setpointWords armedOf seq.armed opened
+unfolding transition refusalOf effect registerRefusal registerEffect registerWords channelAccess stored setpointRefusal setpointWords armedOf seq.armed opened
 reached =
     record {
       start-0 = (refl, refl, refl);

@@ -11,20 +11,20 @@ use Rattle.sequencer.specs.declared.Kind.{Kind}
 use Rattle.sequencer.specs.declared.Kind.the-variants as kind
 use Rattle.sequencer.specs.Words.{stageAfter, indexAfter}
 use Rattle.sequencer.specs.Runs.{kindAt, Beat}
-use Rattle.life.specs.Answers as ans
-use Rattle.channel.specs.Alone.{Alone}
+use Rattle.channel_core.specs.Answers as ans
+use Rattle.channel.specs.OneChannel.{OneChannel}
 use Rattle.timing.specs.Ticking.{after, onTick, wordAt, period, frameOf, Keeps, NextFrame, Resumes}
-use Rattle.timing.specs.Timing.{hears, delay}
+use Rattle.timing.specs.Timing.{triggeredBy, delay}
 use Rattle.timing.proofs.Bridge.{after-keeps, keeps-on}
 use Rattle.timing.proofs.Series.{same-period, same-frame, same-kind}
 use Rattle.timing.proofs.Timing.{timing}
 use Rattle.examples.specs.Starred.{PauseOne, started, resumed, tickOf, Resume25, Resume0}
 
 -- the channel after tick 10
-abbrev paused : Alone → Alone
+abbrev paused : OneChannel → OneChannel
 paused o = after (started o) 10
 
-module _ (o : Alone) (code : ℕ) (h : PauseOne o code) where
+module _ (o : OneChannel) (code : ℕ) (h : PauseOne o code) where
   starts : NextFrame (started o) 10 0
   starts = timing .start-by-command o 1 (h .armed) refl
 
@@ -44,8 +44,8 @@ module _ (o : Alone) (code : ℕ) (h : PauseOne o code) where
   left-ten : paused o .channel .sequencer .left ≡ 10
   left-ten = starts .done .left-is ∙ ten
 
-  same-hears : (k : ℕ) → hears (paused o) k code ≡ hears o k code
-  same-hears k = ap (λ (r : Registers). triggersOf r k code) (kept .same-registers)
+  same-triggeredBy : (k : ℕ) → triggeredBy (paused o) k code ≡ triggeredBy o k code
+  same-triggeredBy k = ap (λ (r : Registers). triggersOf r k code) (kept .same-registers)
 
   same-delay : delay (paused o) 1 ≡ delay o 1
   same-delay = let k = kept in cc
@@ -54,9 +54,9 @@ module _ (o : Alone) (code : ℕ) (h : PauseOne o code) where
   loaded d e =
       subst (Resumes (paused o) (resumed o code)) (same-delay ∙ e)
       (timing .resume-by-event (paused o) code 1
-      (same-hears groupEndEvent ∙ h .resume-only .0, same-hears startEvent ∙ h .resume-only .1)
+      (same-triggeredBy groupEndEvent ∙ h .resume-only .0, same-triggeredBy startEvent ∙ h .resume-only .1)
       (omega arith) (omega arith)
-      (same-hears 1 ∙ h .resume-1)
+      (same-triggeredBy 1 ∙ h .resume-1)
       (starts .done .stage-is ∙ ap stageAfter pause-kind)
       (omega (arith, left-ten)))
 

@@ -4,9 +4,9 @@ use mathlib.Core.Path.{refl, subst}
 use mathlib.Core.Bool.{false}
 use Rattle.frame.specs.Crc.{crcOf}
 use Rattle.frame.specs.Frames.{crcFor, encoded, read, crcRight}
-use Rattle.sequencer.proofs.Moves as moves
+use Rattle.sequencer.proofs.Moves as transitions
 use Rattle.readback.specs.Storing.{storedWord}
-use Rattle.channel.specs.Alone.{move}
+use Rattle.channel.specs.OneChannel.{transition}
 use Rattle.timing.specs.Ticking.{NextFrame}
 use Rattle.timing.specs.Timing.{eventCall}
 use Rattle.timing.proofs.Timing.{timing}
@@ -29,7 +29,7 @@ frame-rows =
 
 first-frame : (d : ℕ) → FirstFrameOn d (d + 10)
 first-frame d o code armed on e =
-    subst (λ (x : ℕ). NextFrame (move o (eventCall o code)) (x + 10) 0) e (timing .start-by-event o code armed on)
+    subst (λ (x : ℕ). NextFrame (transition o (eventCall o code)) (x + 10) 0) e (timing .start-by-event o code armed on)
 
 delay-rows : DelayRows
 delay-rows = record { delay-0 = first-frame 0; delay-most = first-frame 0xffffff }
@@ -39,7 +39,7 @@ resume-rows = record { delay-25 = λ o code h e. resume-25 o code h e; delay-0 =
 
 word-rows : WordRows
 unfolding storedWord
-word-rows = record { d31-with-d16 = λ word last pause. moves.last-bit word false last; stored-word = refl }
+word-rows = record { d31-with-d16 = λ word last pause. transitions.last-bit word false last; stored-word = refl }
 
 pub starred : Starred
 starred = record { frames = frame-rows; delays = delay-rows; resumes = resume-rows; words = word-rows; runs = run-rows }

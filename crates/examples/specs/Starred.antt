@@ -11,11 +11,11 @@ use Rattle.sequencer.specs.declared.Kind.the-variants as kind
 use Rattle.sequencer.specs.declared.LastSend.{LastSend}
 use Rattle.sequencer.specs.Words.{kindOf}
 use Rattle.readback.specs.Storing.{storedWord}
-use Rattle.life.specs.Answers.{Answer}
-use Rattle.life.specs.Answers as ans
-use Rattle.channel.specs.Alone.{Alone, move}
+use Rattle.channel_core.specs.Answers.{Answer}
+use Rattle.channel_core.specs.Answers as ans
+use Rattle.channel.specs.OneChannel.{OneChannel, transition}
 use Rattle.timing.specs.Ticking.{after, onTick, wordAt, frameOf, NextFrame}
-use Rattle.timing.specs.Timing.{command, eventCall, hears, delay, OnlyResumes}
+use Rattle.timing.specs.Timing.{command, eventCall, triggeredBy, delay, OnlyResumes}
 
 -- ---- Frames
 
@@ -40,8 +40,8 @@ pub record FrameRows : Type 0 where
 -- any armed channel, with this start delay for the current user, started by its event: no frame before this tick, and one on it
 abbrev pub FirstFrameOn : (delay tick : ℕ) → Type 0
 FirstFrameOn d tick =
-    (o : Alone) (code : ℕ) → o .channel .sequencer .armed ≡ true → hears o startEvent code ≡ true → delay o 0 ≡ d
-    → NextFrame (move o (eventCall o code)) tick 0
+    (o : OneChannel) (code : ℕ) → o .channel .sequencer .armed ≡ true → triggeredBy o startEvent code ≡ true → delay o 0 ≡ d
+    → NextFrame (transition o (eventCall o code)) tick 0
 
 pub record DelayRows : Type 0 where
   -- "Delay 0: first frame on tick 10. Delay FFFFFFh: tick 16,777,225."
@@ -51,43 +51,43 @@ pub record DelayRows : Type 0 where
 -- ---- Resume delays
 
 -- "Period 10, pause 1": an armed channel with clock code 3, whose word at index 0 has D16 and is not the last; an event that is Resume 1
-pub record PauseOne (o : Alone) (code : ℕ) : Type 0 where
+pub record PauseOne (o : OneChannel) (code : ℕ) : Type 0 where
   pub armed : o .channel .sequencer .armed ≡ true
   pub clock-code : o .channel .registers .clock ≡ 3
   pub pause-bit : bitAt (wordAt o 0) 16 ≡ true
   pub last-bit : bitAt (wordAt o 0) 31 ≡ false
   pub deep : 2 ≤ o .n
-  pub resume-1 : hears o 1 code ≡ true
+  pub resume-1 : triggeredBy o 1 code ≡ true
   pub resume-only : OnlyResumes o code
 
 -- "sent on tick 10": started by command, and ten ticks later; "then loaded": then the event
-abbrev pub started : Alone → Alone
-started o = move o (command o 1)
+abbrev pub started : OneChannel → OneChannel
+started o = transition o (command o 1)
 
-abbrev pub resumed : Alone → ℕ → Alone
-resumed o code = move (after (started o) 10) (eventCall (after (started o) 10) code)
+abbrev pub resumed : OneChannel → ℕ → OneChannel
+resumed o code = transition (after (started o) 10) (eventCall (after (started o) 10) code)
 
 -- what tick t from the Start answers, with that event between ticks 10 and 11
-abbrev pub tickOf : Alone → ℕ → ℕ → Answer
+abbrev pub tickOf : OneChannel → ℕ → ℕ → Answer
 tickOf o code t = cond (leb t 10) (onTick (started o) t) (onTick (resumed o code) (t - 10))
 
-pub record Resume25 (o : Alone) (code : ℕ) : Type 0 where
+pub record Resume25 (o : OneChannel) (code : ℕ) : Type 0 where
   pub on-10 : tickOf o code 10 ≡ frameOf o (wordAt o 0)
   pub on-20 : tickOf o code 20 ≡ frameOf o (wordAt o 0)
   pub on-30 : tickOf o code 30 ≡ frameOf o (wordAt o 0)
   pub on-45 : tickOf o code 45 ≡ frameOf o (wordAt o 1)
   pub others : (t : ℕ) → 1 ≤ t → t < 45 → (t ≡ 10 → ⊥) → (t ≡ 20 → ⊥) → (t ≡ 30 → ⊥) → tickOf o code t ≡ ans.none
 
-pub record Resume0 (o : Alone) (code : ℕ) : Type 0 where
+pub record Resume0 (o : OneChannel) (code : ℕ) : Type 0 where
   pub on-10 : tickOf o code 10 ≡ frameOf o (wordAt o 0)
   pub on-20 : tickOf o code 20 ≡ frameOf o (wordAt o 1)
   pub others : (t : ℕ) → 1 ≤ t → t < 20 → (t ≡ 10 → ⊥) → tickOf o code t ≡ ans.none
 
 pub record ResumeRows : Type 0 where
   -- "resume delay 25 then loaded: repeats on 20 and 30, next word on 45"
-  pub delay-25 : (o : Alone) (code : ℕ) → PauseOne o code → delay o 1 ≡ 25 → Resume25 o code
+  pub delay-25 : (o : OneChannel) (code : ℕ) → PauseOne o code → delay o 1 ≡ 25 → Resume25 o code
   -- "Delay 0: next on 20."
-  pub delay-0 : (o : Alone) (code : ℕ) → PauseOne o code → delay o 1 ≡ 0 → Resume0 o code
+  pub delay-0 : (o : OneChannel) (code : ℕ) → PauseOne o code → delay o 1 ≡ 0 → Resume0 o code
 
 -- ---- Words
 

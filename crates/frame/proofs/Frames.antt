@@ -11,19 +11,19 @@ use borrow.Author.Tests.{lt-ltb, eq-eqb, ltb-true, eqb-true}
 use Rattle.frame.specs.declared.Decoded.{Decoded}
 use Rattle.frame.specs.declared.Decoded.the-variants as decoded
 use Rattle.frame.specs.Polynomials.{Remainder}
-use Rattle.frame.specs.Frames.{middle, compose, crcFor, encoded, framed, idOf, wordOf, auxOf, crcIn, Reading, refused, fields, read, readingOf, crcRight}
+use Rattle.frame.specs.Frames.{middle, compose, crcFor, encoded, framed, idOf, dataOf, auxOf, crcIn, Reading, refused, fields, read, readingOf, crcRight}
 use Rattle.frame.specs.Laws.{Parts}
 use Rattle.frame.proofs.Remainders.{crc-is}
 
 -- ---- reading, by whether the number is well framed
 
-read-framed : (f : ℕ) → framed f ≡ true → read f ≡ fields (idOf f) (wordOf f) (auxOf f) (crcIn f)
+read-framed : (f : ℕ) → framed f ≡ true → read f ≡ fields (idOf f) (dataOf f) (auxOf f) (crcIn f)
 unfolding read
-read-framed f e = ap (λ (t : Bool). cond t (fields (idOf f) (wordOf f) (auxOf f) (crcIn f)) (refused 7)) e
+read-framed f e = ap (λ (t : Bool). cond t (fields (idOf f) (dataOf f) (auxOf f) (crcIn f)) (refused 7)) e
 
 pub refused-7 : (f : ℕ) → framed f ≡ false → read f ≡ refused 7
 unfolding read
-refused-7 f e = ap (λ (t : Bool). cond t (fields (idOf f) (wordOf f) (auxOf f) (crcIn f)) (refused 7)) e
+refused-7 f e = ap (λ (t : Bool). cond t (fields (idOf f) (dataOf f) (auxOf f) (crcIn f)) (refused 7)) e
 
 either-way : (t : Bool) → (t ≡ true) ⊎ (t ≡ false)
 either-way true = inl refl
@@ -47,8 +47,8 @@ module _ (id word aux crc : ℕ) (hi : id < 2 ^ 8) (hw : word < 2 ^ 16) (ha : au
   id-of : idOf (compose id word aux crc) ≡ id
   id-of = omega arith
 
-  word-of : wordOf (compose id word aux crc) ≡ word
-  word-of = omega arith
+  word-of-bits : dataOf (compose id word aux crc) ≡ word
+  word-of-bits = omega arith
 
   aux-of : auxOf (compose id word aux crc) ≡ aux
   aux-of = omega arith
@@ -69,7 +69,7 @@ module _ (id word aux crc : ℕ) (hi : id < 2 ^ 8) (hw : word < 2 ^ 16) (ha : au
   compose-framed = simp (lt-ltb _ _ below, eq-eqb _ _ start, eq-eqb _ _ stop)
 
   pub compose-read : read (compose id word aux crc) ≡ fields id word aux crc
-  compose-read = read-framed (compose id word aux crc) compose-framed ∙ simp (id-of, word-of, aux-of, crc-of)
+  compose-read = read-framed (compose id word aux crc) compose-framed ∙ simp (id-of, word-of-bits, aux-of, crc-of)
 
 -- ---- the CRC of a frame
 
@@ -120,9 +120,9 @@ stacked : (f a b c d e id word aux crc : ℕ) → f ≡ a * 4 + 3 → a ≡ b * 
     → d ≡ e * 2 ^ 8 + id → e ≡ 0 → f ≡ compose id word aux crc
 stacked f a b c d e id word aux crc h₁ h₂ h₃ h₄ h₅ h₆ = omega arith
 
-rejoined : (f : ℕ) → f < 2 ^ 43 → f / 2 ^ 42 % 2 ≡ 0 → f % 4 ≡ 3 → f ≡ compose (idOf f) (wordOf f) (auxOf f) (crcIn f)
+rejoined : (f : ℕ) → f < 2 ^ 43 → f / 2 ^ 42 % 2 ≡ 0 → f % 4 ≡ 3 → f ≡ compose (idOf f) (dataOf f) (auxOf f) (crcIn f)
 rejoined f h b e =
-    stacked f (f / 2 ^ 2) (f / 2 ^ 10) (f / 2 ^ 18) (f / 2 ^ 34) (f / 2 ^ 42) (idOf f) (wordOf f) (auxOf f) (crcIn f) (low-three f e)
+    stacked f (f / 2 ^ 2) (f / 2 ^ 10) (f / 2 ^ 18) (f / 2 ^ 34) (f / 2 ^ 42) (idOf f) (dataOf f) (auxOf f) (crcIn f) (low-three f e)
     (field-split f 2 8) (field-split f 10 8) (field-split f 18 16) (field-split f 34 8) (top-zero f h b)
 
 pub parts-exist : (f : ℕ) → framed f ≡ true → Parts f
@@ -131,7 +131,7 @@ parts-exist f t =
     let ends : (eqb (f / 2 ^ 42 % 2) 0 && eqb (f % 4) 3) ≡ true = both-right (ltb f (2 ^ 43)) (eqb (f / 2 ^ 42 % 2) 0 && eqb (f % 4) 3) t in
     record {
       id = idOf f;
-      word = wordOf f;
+      word = dataOf f;
       aux = auxOf f;
       crc = crcIn f;
       id-fits = mod-lt (f / 2 ^ 34) (lit< tt);

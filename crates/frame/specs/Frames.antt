@@ -31,8 +31,8 @@ framed f = ltb f (2 ^ 43) && (eqb (f / 2 ^ 42 % 2) 0 && eqb (f % 4) 3)
 abbrev pub idOf : ℕ → ℕ
 idOf f = f / 2 ^ 34 % 2 ^ 8
 
-abbrev pub wordOf : ℕ → ℕ
-wordOf f = f / 2 ^ 18 % 2 ^ 16
+abbrev pub dataOf : ℕ → ℕ
+dataOf f = f / 2 ^ 18 % 2 ^ 16
 
 abbrev pub auxOf : ℕ → ℕ
 auxOf f = f / 2 ^ 10 % 2 ^ 8
@@ -47,7 +47,7 @@ pub data Reading : Type 0 where
   fields : (id word aux crc : ℕ) → Reading
 
 unfoldable pub read : ℕ → Reading
-read f = cond (framed f) (fields (idOf f) (wordOf f) (auxOf f) (crcIn f)) (refused (numberOf refusal.FramingError))
+read f = cond (framed f) (fields (idOf f) (dataOf f) (auxOf f) (crcIn f)) (refused (numberOf refusal.FramingError))
 
 -- the paper's number and values for each answer of `frame::decode`
 abbrev pub readingOf : Decoded → Reading

@@ -8,14 +8,14 @@ use Rattle.status.specs.Bits.{bitAt}
 use Rattle.registers.specs.Map.{periodOf, triggersOf, groupEndEvent}
 use Rattle.sequencer.specs.declared.Sequencer.{Sequencer}
 use Rattle.sequencer.specs.Playing.{idled, disarmed}
-use Rattle.life.specs.declared.Channel.{Channel}
-use Rattle.life.specs.State.{reset}
-use Rattle.life.specs.Answers.{Answer}
-use Rattle.life.specs.Answers as ans
-use Rattle.life.specs.Life.{dueOf, tickOf, tickAnswer, userChanged}
+use Rattle.channel_core.specs.declared.Channel.{Channel}
+use Rattle.channel_core.specs.State.{reset}
+use Rattle.channel_core.specs.Answers.{Answer}
+use Rattle.channel_core.specs.Answers as ans
+use Rattle.channel_core.specs.Behaviour.{dueOf, tickOf, tickAnswer, userChanged}
 use Rattle.channel.specs.Calls.{registerEffect, readEffect, mainTaken, armedOf, disarmedOf}
-use Rattle.channel.specs.Alone.{ChannelCall, Alone, effect, answer, move, says, mainRead, mainHeard, userChange}
-use Rattle.channel.specs.Alone as call
+use Rattle.channel.specs.OneChannel.{ChannelCall, OneChannel, effect, answer, transition, response, mainRead, mainAnswer, userChange}
+use Rattle.channel.specs.OneChannel as call
 use Rattle.channel.specs.History.{entry, asksGroupEnd, asksReset, endsGroup, resets}
 use Rattle.histories.proofs.Keeps.{keeps-armed, keeps-event, keeps-command}
 use Rattle.histories.proofs.Cases.{either, by-offset}
@@ -60,7 +60,7 @@ main-sequencer c offset =
     either (Has (c .sequencer)) (eqb offset 0x28) _ _ (taken-sequencer c false)
     (either (Has (c .sequencer)) (eqb offset 0x2a) _ _ (taken-sequencer c true) refl)
 
-main-plain : (c : Channel) (offset : ℕ) → Plain (mainHeard c offset)
+main-plain : (c : Channel) (offset : ℕ) → Plain (mainAnswer c offset)
 main-plain c offset = go (eqb offset 0x28) (eqb offset 0x2a)
   where
     go : (a b : Bool) → Plain (cond a (ans.bit (c .status .interrupt .main)) (cond b (ans.bit (c .status .polling .main)) ans.done))
@@ -68,7 +68,7 @@ main-plain c offset = go (eqb offset 0x28) (eqb offset 0x2a)
     go false true = (refl, refl)
     go false false = (refl, refl)
 
-user-steps : (o : Alone) (user : ℕ) → Steps (o .n) (o .channel .sequencer) ans.done false false (userChange o user .channel .sequencer)
+user-steps : (o : OneChannel) (user : ℕ) → Steps (o .n) (o .channel .sequencer) ans.done false false (userChange o user .channel .sequencer)
 unfolding userChanged idled
 user-steps o user = go (eqb user (o .user))
   where
@@ -88,7 +88,7 @@ period-some clock = go (eqb clock 0) (eqb clock 1) (eqb clock 2)
     go false false false = omega arith
 
 -- what a call does that is not refused
-effect-steps : (o : Alone) (k : ChannelCall)
+effect-steps : (o : OneChannel) (k : ChannelCall)
     → Steps (o .n) (o .channel .sequencer) (answer o k) (asksGroupEnd o k) (asksReset k) (effect o k .channel .sequencer)
 unfolding effect answer armedOf disarmedOf disarmed tickOf tickAnswer
 effect-steps o (call.writeRegister lent offset value) = register-steps (o .n) (o .channel) offset value
@@ -111,9 +111,9 @@ effect-steps o (call.readMain offset) =
     same-steps (o .n) (o .channel) _ _ (main-plain (o .channel) offset) (main-sequencer (o .channel) offset)
 
 -- any call
-pub steps : (o : Alone) (k : ChannelCall)
-    → Steps (o .n) (o .channel .sequencer) (says o k) (endsGroup (entry o k)) (resets (entry o k)) (move o k .channel .sequencer)
+pub steps : (o : OneChannel) (k : ChannelCall)
+    → Steps (o .n) (o .channel .sequencer) (response o k) (endsGroup (entry o k)) (resets (entry o k)) (transition o k .channel .sequencer)
 steps o k =
-    by-refusal (λ (x : Alone) (a : Answer) (b c : Bool). Steps (o .n) (o .channel .sequencer) a b c (x .channel .sequencer)) o k
+    by-refusal (λ (x : OneChannel) (a : Answer) (b c : Bool). Steps (o .n) (o .channel .sequencer) a b c (x .channel .sequencer)) o k
     (λ e. effect-steps o k)
     (same-steps (o .n) (o .channel) _ _ (refl, refl) refl)

@@ -7,9 +7,10 @@ use native.Mathlib.Omega.{arith}
 use Rattle.sequencer.specs.Playing.{counted}
 use Rattle.sequencer.specs.declared.Transmission.the-variants as transmission
 use Rattle.sequencer.proofs.Moves.{counted-with}
-use Rattle.life.specs.State as state
-use Rattle.channel.specs.Alone.{ChannelCall, Alone, alone, move, moves}
-use Rattle.channel.specs.History.{entry, history, isFrame, endsGroup, resets, framesSince}
+use Rattle.channel_core.specs.State as state
+use Rattle.channel.specs.OneChannel.{ChannelCall, OneChannel, oneChannel, transition, transitions}
+use Rattle.channel_core.specs.Answers.{isFrame}
+use Rattle.channel.specs.History.{entry, history, endsGroup, resets, framesSince}
 use Rattle.histories.specs.Counting.{mostCounted, CountsFrames}
 use Rattle.histories.proofs.Calls.{steps}
 
@@ -21,15 +22,15 @@ counted-more false true c j h = omega (arith, counted-with (transmission.Word 0 
 counted-more false false c j h = h
 
 -- from any state whose count is that of j frames
-pub counts-frames-from : (o : Alone) (ks : List ChannelCall) (j : ℕ) → o .channel .sequencer .count ≡ min j mostCounted
-    → moves o ks .channel .sequencer .count ≡ min (framesSince j (history o ks)) mostCounted
+pub counts-frames-from : (o : OneChannel) (ks : List ChannelCall) (j : ℕ) → o .channel .sequencer .count ≡ min j mostCounted
+    → transitions o ks .channel .sequencer .count ≡ min (framesSince j (history o ks)) mostCounted
 unfolding framesSince
 counts-frames-from o [] j h = h
 counts-frames-from o (k ∷ ks) j h =
     let e = entry o k in
-    counts-frames-from (move o k) ks (cond (endsGroup e || resets e) 0 (cond (isFrame (e .answer)) (j + 1) j))
+    counts-frames-from (transition o k) ks (cond (endsGroup e || resets e) 0 (cond (isFrame (e .answer)) (j + 1) j))
     (steps o k .count-step ∙ counted-more (endsGroup e || resets e) (isFrame (e .answer)) (o .channel .sequencer .count) j h)
 
 pub counts-frames : CountsFrames
 unfolding state.opened
-counts-frames n m setpoints readbacks ks = counts-frames-from (alone n m setpoints readbacks) ks 0 refl
+counts-frames n m setpoints readbacks ks = counts-frames-from (oneChannel n m setpoints readbacks) ks 0 refl

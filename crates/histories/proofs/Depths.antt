@@ -3,16 +3,16 @@ use mathlib.Core.Path.{_≡_, refl, _∙_}
 use mathlib.Core.Bool.{Bool, true, false, cond}
 use mathlib.Core.List.{List, [], _∷_}
 use lib.Dec.{eqb}
-use Rattle.life.specs.Answers.{Answer}
-use Rattle.life.specs.Life.{userChanged}
-use Rattle.channel.specs.Alone.{ChannelCall, Alone, effect, move, moves, withUser}
-use Rattle.channel.specs.Alone as call
+use Rattle.channel_core.specs.Answers.{Answer}
+use Rattle.channel_core.specs.Behaviour.{userChanged}
+use Rattle.channel.specs.OneChannel.{ChannelCall, OneChannel, effect, transition, transitions, withUser}
+use Rattle.channel.specs.OneChannel as call
 use Rattle.histories.proofs.Refusing.{by-refusal}
 
-abbrev SameDepths : Alone → Alone → Type 0
+abbrev SameDepths : OneChannel → OneChannel → Type 0
 SameDepths o x = (x .n ≡ o .n) × (x .m ≡ o .m)
 
-depths-effect : (o : Alone) (k : ChannelCall) → SameDepths o (effect o k)
+depths-effect : (o : OneChannel) (k : ChannelCall) → SameDepths o (effect o k)
 unfolding effect
 depths-effect o (call.writeRegister lent offset value) = (refl, refl)
 depths-effect o (call.readRegister offset) = (refl, refl)
@@ -32,12 +32,12 @@ depths-effect o (call.changeUser user) = go (eqb user (o .user))
 depths-effect o (call.writeMain lent offset value) = (refl, refl)
 depths-effect o (call.readMain offset) = (refl, refl)
 
-pub depths-step : (o : Alone) (k : ChannelCall) → SameDepths o (move o k)
-depths-step o k = by-refusal (λ (x : Alone) (a : Answer) (b c : Bool). SameDepths o x) o k (λ e. depths-effect o k) (refl, refl)
+pub depths-step : (o : OneChannel) (k : ChannelCall) → SameDepths o (transition o k)
+depths-step o k = by-refusal (λ (x : OneChannel) (a : Answer) (b c : Bool). SameDepths o x) o k (λ e. depths-effect o k) (refl, refl)
 
-pub depths-kept : (o : Alone) (ks : List ChannelCall) → SameDepths o (moves o ks)
+pub depths-kept : (o : OneChannel) (ks : List ChannelCall) → SameDepths o (transitions o ks)
 depths-kept o [] = (refl, refl)
 depths-kept o (k ∷ ks) =
-    let a = depths-kept (move o k) ks in
+    let a = depths-kept (transition o k) ks in
     let b = depths-step o k in
     (a .0 ∙ b .0, a .1 ∙ b .1)

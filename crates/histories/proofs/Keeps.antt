@@ -8,20 +8,20 @@ use Rattle.sequencer.specs.declared.Stage.{Stage}
 use Rattle.sequencer.specs.declared.Stage.the-variants as stage
 use Rattle.sequencer.specs.declared.Sequencer.{Sequencer}
 use Rattle.sequencer.specs.Playing.{isIdle, armed, started, loadedResume, resumedAt, resumed}
-use Rattle.life.specs.declared.Channel.{Channel}
-use Rattle.life.specs.Life.{startedIf, resumedIf, resumedOn, eventOf, commanded, endedIf}
-use Rattle.life.specs.Life as life
+use Rattle.channel_core.specs.declared.Channel.{Channel}
+use Rattle.channel_core.specs.Behaviour.{startedIf, resumedIf, resumedOn, eventOf, commanded, endedIf}
+use Rattle.channel_core.specs.Behaviour as core
 use Rattle.status.specs.Bits.{bitAt}
 use Rattle.registers.specs.Map.{triggersOf, groupEndEvent}
 use Rattle.channel.proofs.Ranges.{clash}
-use Rattle.histories.specs.Ranges.{Countdown, Playing}
+use Rattle.histories.specs.Ranges.{CountdownInRange, UnderWay}
 use Rattle.histories.proofs.Cases.{either}
 
 pub record Keeps (s t : Sequencer) : Type 0 where
   pub count-kept : t .count ≡ s .count
   pub last-kept : t .last ≡ s .last
   pub idle-kept : isIdle (t .stage) ≡ true → isIdle (s .stage) ≡ true
-  pub playing-kept : (n : ℕ) → 1 ≤ n → Playing n s → Playing n t
+  pub playing-kept : (n : ℕ) → 1 ≤ n → UnderWay n s → UnderWay n t
 
 pub keeps-all : (s : Sequencer) → Keeps s s
 keeps-all s = record { count-kept = refl; last-kept = refl; idle-kept = λ e. e; playing-kept = λ n h p. p }
@@ -56,8 +56,8 @@ keeps-started s delay =
     }
 
 -- what is loaded in a pause counts on
-loaded-countdown : (k left resume : ℕ) (g : Stage) → g ≡ stage.Paused k → Countdown g left resume → 1 ≤ left
-loaded-countdown k left resume g e p = (subst (λ (x : Stage). Countdown x left resume) e p) .0
+loaded-countdown : (k left resume : ℕ) (g : Stage) → g ≡ stage.Paused k → CountdownInRange g left resume → 1 ≤ left
+loaded-countdown k left resume g e p = (subst (λ (x : Stage). CountdownInRange x left resume) e p) .0
 
 keeps-loaded : (s : Sequencer) (k delay : ℕ) → s .stage ≡ stage.Paused k → Keeps s (loadedResume s delay)
 keeps-loaded s k delay e =
@@ -85,8 +85,8 @@ keeps-resumed s pause delay = go (s .stage) refl
     go stage.Resuming e = keeps-all s
     go stage.Ended e = keeps-all s
 
-keeps-channel-started : (c : Channel) (delay : ℕ) → Keeps (c .sequencer) (life.started c delay .sequencer)
-unfolding life.started
+keeps-channel-started : (c : Channel) (delay : ℕ) → Keeps (c .sequencer) (core.started c delay .sequencer)
+unfolding core.started
 keeps-channel-started c delay =
     either (λ (x : Channel). Keeps (c .sequencer) (x .sequencer)) (c .sequencer .armed) _ c (keeps-started (c .sequencer) delay) (keeps-all (c .sequencer))
 

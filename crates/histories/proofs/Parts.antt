@@ -22,9 +22,9 @@ use Rattle.readback.specs.declared.Readbacks.{Readbacks}
 use Rattle.readback.specs.declared.Disposition.{Disposition}
 use Rattle.readback.specs.declared.Disposition.the-variants as disposition
 use Rattle.readback.specs.Storing.{keptIn, capacity}
-use Rattle.life.specs.declared.Channel.{Channel}
-use Rattle.life.specs.State.{opened, reset, withStatus, withRegisters, withSequencer, happened}
-use Rattle.life.specs.Life.{started, startedIf, endedIf, resumedIf, resumedOn, eventOf, commanded, groupEnded, earlyEnded, userChanged, sendStatus, playedOf, tickOf, crcStatus, fateOf, fateChannel, replyAs, replyOf}
+use Rattle.channel_core.specs.declared.Channel.{Channel}
+use Rattle.channel_core.specs.State.{opened, reset, withStatus, withRegisters, withSequencer, conditionLatched}
+use Rattle.channel_core.specs.Behaviour.{started, startedIf, endedIf, resumedIf, resumedOn, eventOf, commanded, groupEnded, earlyEnded, userChanged, sendStatus, playedOf, tickOf, crcStatus, dispositionNow, receivedChannel, replyAs, replyOf}
 use Rattle.histories.proofs.Cases.{either, by-test}
 use Rattle.histories.specs.Ranges.{StatusInRange, RegistersInRange, ReadbacksInRange, ChannelInRange}
 
@@ -121,7 +121,7 @@ module _ (m : ℕ) where
   started-range c delay h =
       either (ChannelInRange m) (c .sequencer .armed) _ c
       (with-sequencer _ _
-      (either (ChannelInRange m) (isIdle (c .sequencer .stage)) (happened c run) c
+      (either (ChannelInRange m) (isIdle (c .sequencer .stage)) (conditionLatched c run) c
       (with-status c _ (latched-range (c .status) run (h .status)) h) h))
       h
 
@@ -174,10 +174,10 @@ module _ (m : ℕ) where
         retired = h .retired;
       }
 
-  fate-range : (d : Disposition) (c : Channel) (right : Bool) → ChannelInRange m c → ChannelInRange m (fateChannel d c m right)
-  fate-range disposition.Unsolicited c right h = h
-  fate-range disposition.Lost c right h = with-sequencer _ _ (with-status c _ (crc-range (c .status) right (h .status)) h)
-  fate-range disposition.Kept c right h =
+  disposition-range : (d : Disposition) (c : Channel) (right : Bool) → ChannelInRange m c → ChannelInRange m (receivedChannel d c m right)
+  disposition-range disposition.Unsolicited c right h = h
+  disposition-range disposition.Lost c right h = with-sequencer _ _ (with-status c _ (crc-range (c .status) right (h .status)) h)
+  disposition-range disposition.Kept c right h =
       record {
         status = crc-range (c .status) right (h .status);
         registers = h .registers;
@@ -190,4 +190,4 @@ module _ (m : ℕ) where
     where
       go : (g : Reading) → ChannelInRange m (replyAs g c m)
       go (frame.refused k) = h
-      go (frame.fields id word aux crc) = fate-range (fateOf c m) c (crcRight id word aux crc) h
+      go (frame.fields id word aux crc) = disposition-range (dispositionNow c m) c (crcRight id word aux crc) h

@@ -14,13 +14,13 @@ use Rattle.register_map.specs.Verdicts.{writeRefusal}
 use Rattle.status.specs.Bits.{bitAt}
 use Rattle.readback.specs.declared.Disposition.{Disposition}
 use Rattle.readback.specs.declared.Disposition.the-variants as disposition
-use Rattle.life.specs.declared.Channel.{Channel}
-use Rattle.life.specs.State as state
-use Rattle.life.specs.Answers.{Answer}
-use Rattle.life.specs.Life.{userChanged, groupWords, endedWords, eventWords, commandWords, fateOf, fateWords, replyWordsAs, replyWords}
+use Rattle.channel_core.specs.declared.Channel.{Channel}
+use Rattle.channel_core.specs.State as state
+use Rattle.channel_core.specs.Answers.{Answer}
+use Rattle.channel_core.specs.Behaviour.{userChanged, groupWords, endedWords, eventWords, commandWords, dispositionNow, receivedWords, replyWordsAs, replyWords}
 use Rattle.channel.specs.Calls.{registerRefusal, registerEffect, registerWords, readEffect, outside, setpointRefusal, setpointWords, armedOf, disarmedOf, mainTaken}
-use Rattle.channel.specs.Alone.{ChannelCall, Alone, alone, then, lengthRefusal, refusalOf, effect, move, moves, mainRead, withUser, withChannel, withReadbacks, userRefusal}
-use Rattle.channel.specs.Alone as call
+use Rattle.channel.specs.OneChannel.{ChannelCall, OneChannel, oneChannel, then, lengthRefusal, refusalOf, effect, transition, transitions, mainRead, withUser, withChannel, withReadbacks, userRefusal}
+use Rattle.channel.specs.OneChannel as call
 use Rattle.channel.proofs.Ranges.{clash, passed, inside}
 use Rattle.histories.specs.Ranges.{SequencerInRange, ChannelInRange, InRange, CallKeepsRange, StaysInRange}
 use Rattle.histories.proofs.Cases.{either}
@@ -30,7 +30,7 @@ use Rattle.histories.proofs.Parts.{stored-range, with-status, with-regi
 use Rattle.histories.proofs.Refusing.{by-refusal}
 
 -- what is in range but for the sequencer
-record Fits (o : Alone) : Type 0 where
+record Fits (o : OneChannel) : Type 0 where
   user-from : 1 ≤ o .user
   user-to : o .user ≤ 8
   channel : ChannelInRange (o .m) (o .channel)
@@ -100,10 +100,10 @@ unfolding setpointWords
 setpoint-long c s n user buffer index word =
     either (Long s) (eqb (setpointRefusal c n user buffer index) 0) _ s (length-set s _ _) refl
 
-fate-long : (d : Disposition) (c : Channel) (s : List ℕ) (m word : ℕ) → Long s (fateWords d c s m word)
-fate-long disposition.Unsolicited c s m word = refl
-fate-long disposition.Lost c s m word = refl
-fate-long disposition.Kept c s m word = either (Long s) (ltb (c .readbacks .stored) m) _ s (length-set s _ _) refl
+disposition-long : (d : Disposition) (c : Channel) (s : List ℕ) (m word : ℕ) → Long s (receivedWords d c s m word)
+disposition-long disposition.Unsolicited c s m word = refl
+disposition-long disposition.Lost c s m word = refl
+disposition-long disposition.Kept c s m word = either (Long s) (ltb (c .readbacks .stored) m) _ s (length-set s _ _) refl
 
 reply-long : (c : Channel) (s : List ℕ) (m user f : ℕ) → Long s (replyWords c s m user f)
 unfolding replyWords
@@ -111,11 +111,11 @@ reply-long c s m user f = go (read f)
   where
     go : (g : Reading) → Long s (replyWordsAs g c s m user)
     go (frame.refused k) = refl
-    go (frame.fields id word aux crc) = fate-long (fateOf c m) c s m _
+    go (frame.fields id word aux crc) = disposition-long (dispositionNow c m) c s m _
 
 -- ---- Each call
 
-with-channel : (o : Alone) (c : Channel) → Fits o → ChannelInRange (o .m) c → Fits (withChannel o c)
+with-channel : (o : OneChannel) (c : Channel) → Fits o → ChannelInRange (o .m) c → Fits (withChannel o c)
 with-channel o c h k =
     record {
       user-from = h .user-from;
@@ -125,7 +125,7 @@ with-channel o c h k =
       readback-words = h .readback-words;
     }
 
-with-readbacks : (o : Alone) (c : Channel) (s : List ℕ) → Fits o → ChannelInRange (o .m) c → Long (o .readbacks) s → Fits (withReadbacks o c s)
+with-readbacks : (o : OneChannel) (c : Channel) (s : List ℕ) → Fits o → ChannelInRange (o .m) c → Long (o .readbacks) s → Fits (withReadbacks o c s)
 with-readbacks o c s h k l =
     record {
       user-from = h .user-from;
@@ -135,7 +135,7 @@ with-readbacks o c s h k l =
       readback-words = l ∙ h .readback-words;
     }
 
-user-fits : (o : Alone) (user : ℕ) → userRefusal user ≡ 0 → Fits o → Fits (call.userChange o user)
+user-fits : (o : OneChannel) (user : ℕ) → userRefusal user ≡ 0 → Fits o → Fits (call.userChange o user)
 user-fits o user e h = go (eqb user (o .user))
   where
     go : (b : Bool) → Fits (cond b o (withUser o user (userChanged (o .channel))))
@@ -151,7 +151,7 @@ user-fits o user e h = go (eqb user (o .user))
           readback-words = h .readback-words;
         }
 
-effect-fits : (o : Alone) (k : ChannelCall) → refusalOf o k ≡ 0 → Fits o → Fits (effect o k)
+effect-fits : (o : OneChannel) (k : ChannelCall) → refusalOf o k ≡ 0 → Fits o → Fits (effect o k)
 unfolding refusalOf effect armedOf disarmedOf eventWords
 effect-fits o (call.writeRegister lent offset value) e h =
     let f = then-passed (lengthRefusal lent (o .m * 8)) (registerRefusal offset value) e .1 in
@@ -179,9 +179,9 @@ effect-fits o (call.changeUser user) e h = user-fits o user e h
 effect-fits o (call.writeMain lent offset value) e h = h
 effect-fits o (call.readMain offset) e h = with-channel o _ h (main-range (o .m) (o .channel) offset (h .channel))
 
-fits-step : (o : Alone) (k : ChannelCall) → Fits o → Fits (move o k)
+fits-step : (o : OneChannel) (k : ChannelCall) → Fits o → Fits (transition o k)
 fits-step o k h =
-    by-refusal (λ (x : Alone) (a : Answer) (b c : Bool). Fits x) o k (λ e. effect-fits o k (eqb-true (refusalOf o k) 0 e) h) h
+    by-refusal (λ (x : OneChannel) (a : Answer) (b c : Bool). Fits x) o k (λ e. effect-fits o k (eqb-true (refusalOf o k) 0 e) h) h
 
 -- ---- Lists of calls
 
@@ -199,7 +199,7 @@ range-step o k h =
       readback-words = h .readback-words;
     })
     in
-    let q : SequencerInRange (o .n) (move o k .channel .sequencer) =
+    let q : SequencerInRange (o .n) (transition o k .channel .sequencer) =
     record {
       playing = steps o k .playing-step (h .depth) (h .sequencer .playing);
       replies = steps o k .replies-step (h .sequencer .replies);
@@ -212,19 +212,19 @@ range-step o k h =
       user-from = f .user-from;
       user-to = f .user-to;
       channel = f .channel;
-      sequencer = subst (λ (x : ℕ). SequencerInRange x (move o k .channel .sequencer)) (sym n) q;
+      sequencer = subst (λ (x : ℕ). SequencerInRange x (transition o k .channel .sequencer)) (sym n) q;
       setpoint-words = f .setpoint-words;
       readback-words = f .readback-words;
     }
 
-pub range-from : (o : Alone) (ks : List ChannelCall) → InRange o → InRange (moves o ks)
+pub range-from : (o : OneChannel) (ks : List ChannelCall) → InRange o → InRange (transitions o ks)
 range-from o [] h = h
-range-from o (k ∷ ks) h = range-from (move o k) ks (range-step o k h)
+range-from o (k ∷ ks) h = range-from (transition o k) ks (range-step o k h)
 
 pub stays-in-range : StaysInRange
 unfolding state.opened
 stays-in-range n m setpoints readbacks some more s r ks =
-    range-from (alone n m setpoints readbacks) ks
+    range-from (oneChannel n m setpoints readbacks) ks
     (record {
       depth = some;
       readback-depth = more;

@@ -2,22 +2,22 @@
 use mathlib.Core.Path.{_≡_, refl, ap}
 use mathlib.Core.Bool.{Bool, true, false, cond}
 use lib.Dec.{eqb}
-use Rattle.life.specs.Answers.{Answer, refused}
-use Rattle.channel.specs.Alone.{ChannelCall, Alone, refusalOf, effect, answer, move, says}
+use Rattle.channel_core.specs.Answers.{Answer, refused}
+use Rattle.channel.specs.OneChannel.{ChannelCall, OneChannel, refusalOf, effect, answer, transition, response}
 use Rattle.channel.specs.History.{entry, asksGroupEnd, asksReset, endsGroup, resets}
 use Rattle.histories.specs.Refusing.{RefusedChangesNothing}
 
 pub refused-nothing : RefusedChangesNothing
-unfolding move says
+unfolding transition response
 refused-nothing o k h =
     (ap (λ (b : Bool). cond b (effect o k) o) h, ap (λ (b : Bool). cond b (answer o k) (refused (refusalOf o k))) h)
 
 -- a call that is not refused has its effect and its answer; a refused one neither moves, ends a group nor resets
-pub by-refusal : (P : Alone → Answer → Bool → Bool → Type 0) (o : Alone) (k : ChannelCall)
+pub by-refusal : (P : OneChannel → Answer → Bool → Bool → Type 0) (o : OneChannel) (k : ChannelCall)
     → (eqb (refusalOf o k) 0 ≡ true → P (effect o k) (answer o k) (asksGroupEnd o k) (asksReset k))
     → P o (refused (refusalOf o k)) false false
-    → P (move o k) (says o k) (endsGroup (entry o k)) (resets (entry o k))
-unfolding move says
+    → P (transition o k) (response o k) (endsGroup (entry o k)) (resets (entry o k))
+unfolding transition response
 by-refusal P o k h g = go (eqb (refusalOf o k) 0) refl
   where
     go : (b : Bool) → eqb (refusalOf o k) 0 ≡ b
@@ -26,10 +26,10 @@ by-refusal P o k h g = go (eqb (refusalOf o k) 0) refl
     go true e = h e
     go false e = g
 
-pub accepted-moves : (o : Alone) (k : ChannelCall) → eqb (refusalOf o k) 0 ≡ true → move o k ≡ effect o k
-unfolding move
-accepted-moves o k h = ap (λ (b : Bool). cond b (effect o k) o) h
+pub accepted-transitions : (o : OneChannel) (k : ChannelCall) → eqb (refusalOf o k) 0 ≡ true → transition o k ≡ effect o k
+unfolding transition
+accepted-transitions o k h = ap (λ (b : Bool). cond b (effect o k) o) h
 
-pub accepted-says : (o : Alone) (k : ChannelCall) → eqb (refusalOf o k) 0 ≡ true → says o k ≡ answer o k
-unfolding says
-accepted-says o k h = ap (λ (b : Bool). cond b (answer o k) (refused (refusalOf o k))) h
+pub accepted-response : (o : OneChannel) (k : ChannelCall) → eqb (refusalOf o k) 0 ≡ true → response o k ≡ answer o k
+unfolding response
+accepted-response o k h = ap (λ (b : Bool). cond b (answer o k) (refused (refusalOf o k))) h

@@ -7,18 +7,18 @@ use borrow.Author.Tests.{eq-eqb}
 use Rattle.frame.specs.Frames.{read, fields, crcRight}
 use Rattle.readback.specs.declared.Disposition.the-variants as disposition
 use Rattle.readback.specs.Storing.{dispositionOf, storedWord}
-use Rattle.life.specs.Answers.{kept, lost, unsolicited}
-use Rattle.life.specs.Life.{fateOf, fateAnswer, fateChannel, fateWords, replyAnswer, replyOf, replyWords}
-use Rattle.life.specs.State as state
-use Rattle.channel.specs.Alone.{ChannelCall, Alone, alone, refusalOf, effect, answer, move, says, moves, reply}
+use Rattle.channel_core.specs.Answers.{kept, lost, unsolicited}
+use Rattle.channel_core.specs.Behaviour.{dispositionNow, receiptAnswer, receivedChannel, receivedWords, replyAnswer, replyOf, replyWords}
+use Rattle.channel_core.specs.State as state
+use Rattle.channel.specs.OneChannel.{ChannelCall, OneChannel, oneChannel, refusalOf, effect, answer, transition, response, transitions, reply}
 use Rattle.channel.specs.History.{Window, closed}
-use Rattle.histories.specs.Replying.{isDue, hasSpace, storedAfter, Replied, RepliesByWindow}
-use Rattle.histories.proofs.Refusing.{accepted-moves, accepted-says}
+use Rattle.histories.specs.Replying.{dueByWindow, hasSpace, storedAfter, Replied, RepliesByWindow}
+use Rattle.histories.proofs.Refusing.{accepted-transitions, accepted-response}
 use Rattle.histories.proofs.Ticks.{windowOf}
 use Rattle.histories.proofs.Depths.{depths-kept}
 use Rattle.histories.proofs.Windows.{window-is}
 
-module _ (o : Alone) (f id word aux crc : ℕ) (framed : read f ≡ fields id word aux crc) where
+module _ (o : OneChannel) (f id word aux crc : ℕ) (framed : read f ≡ fields id word aux crc) where
   call : ChannelCall
   call = reply (o .m * 8) f
 
@@ -29,50 +29,50 @@ module _ (o : Alone) (f id word aux crc : ℕ) (framed : read f ≡ fields id wo
   unfolding call refusalOf
   not-refused = rw (eq-eqb (o .m * 8) (o .m * 8) refl, framed)
 
-  fate : fateOf (o .channel) (o .m) ≡ cond (isDue o window) (cond (hasSpace o) disposition.Kept disposition.Lost) disposition.Unsolicited
-  unfolding fateOf dispositionOf window
-  fate = refl
+  disposed : dispositionNow (o .channel) (o .m) ≡ cond (dueByWindow o window) (cond (hasSpace o) disposition.Kept disposition.Lost) disposition.Unsolicited
+  unfolding dispositionNow dispositionOf window
+  disposed = refl
 
-  answers : says o call ≡ cond (isDue o window) (cond (hasSpace o) kept lost) unsolicited
+  answers : response o call ≡ cond (dueByWindow o window) (cond (hasSpace o) kept lost) unsolicited
   unfolding answer replyAnswer call
-  answers = accepted-says o call not-refused ∙ rw (framed, fate) (go (isDue o window) (hasSpace o))
+  answers = accepted-response o call not-refused ∙ rw (framed, disposed) (go (dueByWindow o window) (hasSpace o))
     where
       go : (due space : Bool)
-          → fateAnswer (cond due (cond space disposition.Kept disposition.Lost) disposition.Unsolicited)
+          → receiptAnswer (cond due (cond space disposition.Kept disposition.Lost) disposition.Unsolicited)
           ≡ cond due (cond space kept lost) unsolicited
       go true true = refl
       go true false = refl
       go false space = refl
 
-  count : move o call .channel .readbacks .stored
-      ≡ cond (isDue o window && hasSpace o) (o .channel .readbacks .stored + 1) (o .channel .readbacks .stored)
+  count : transition o call .channel .readbacks .stored
+      ≡ cond (dueByWindow o window && hasSpace o) (o .channel .readbacks .stored + 1) (o .channel .readbacks .stored)
   unfolding effect replyOf call
   count =
-      ap (λ (x : Alone). x .channel .readbacks .stored) (accepted-moves o call not-refused)
-      ∙ rw (framed, fate) (go (isDue o window) (hasSpace o) refl)
+      ap (λ (x : OneChannel). x .channel .readbacks .stored) (accepted-transitions o call not-refused)
+      ∙ rw (framed, disposed) (go (dueByWindow o window) (hasSpace o) refl)
     where
       go : (due space : Bool) → hasSpace o ≡ space
-          → fateChannel (cond due (cond space disposition.Kept disposition.Lost) disposition.Unsolicited) (o .channel) (o .m) (crcRight id word aux crc)
+          → receivedChannel (cond due (cond space disposition.Kept disposition.Lost) disposition.Unsolicited) (o .channel) (o .m) (crcRight id word aux crc)
           .readbacks .stored
           ≡ cond (due && space) (o .channel .readbacks .stored + 1) (o .channel .readbacks .stored)
       go true true e = rw e
       go true false e = refl
       go false space e = refl
 
-  words : move o call .readbacks
-      ≡ cond (isDue o window && hasSpace o)
+  words : transition o call .readbacks
+      ≡ cond (dueByWindow o window && hasSpace o)
       (storedAfter o (storedWord (o .channel .sequencer .last) (o .user) (not (crcRight id word aux crc)) id word))
       (o .readbacks)
   unfolding effect replyWords call
   words =
-      ap (λ (x : Alone). x .readbacks) (accepted-moves o call not-refused)
-      ∙ rw (framed, fate) (go (isDue o window) (hasSpace o) refl)
+      ap (λ (x : OneChannel). x .readbacks) (accepted-transitions o call not-refused)
+      ∙ rw (framed, disposed) (go (dueByWindow o window) (hasSpace o) refl)
     where
       x : ℕ
       x = storedWord (o .channel .sequencer .last) (o .user) (not (crcRight id word aux crc)) id word
 
       go : (due space : Bool) → hasSpace o ≡ space
-          → fateWords (cond due (cond space disposition.Kept disposition.Lost) disposition.Unsolicited) (o .channel) (o .readbacks) (o .m) x
+          → receivedWords (cond due (cond space disposition.Kept disposition.Lost) disposition.Unsolicited) (o .channel) (o .readbacks) (o .m) x
           ≡ cond (due && space) (storedAfter o x) (o .readbacks)
       go true true e = rw e
       go true false e = refl
@@ -85,8 +85,8 @@ module _ (o : Alone) (f id word aux crc : ℕ) (framed : read f ≡ fields id wo
 pub replies-by-window : RepliesByWindow
 unfolding state.opened window
 replies-by-window n m setpoints readbacks ks f id word aux crc framed =
-    let o = moves (alone n m setpoints readbacks) ks in
+    let o = transitions (oneChannel n m setpoints readbacks) ks in
     subst₂ (λ (w : Window) (d : ℕ). Replied o w d f id word aux crc)
-    (window-is (alone n m setpoints readbacks) ks closed (λ e. refl) refl)
-    (depths-kept (alone n m setpoints readbacks) ks .1)
+    (window-is (oneChannel n m setpoints readbacks) ks closed (λ e. refl) refl)
+    (depths-kept (oneChannel n m setpoints readbacks) ks .1)
     (replied o f id word aux crc framed)

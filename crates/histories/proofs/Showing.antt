@@ -8,16 +8,16 @@ use Rattle.status.specs.Bits.{bitAt}
 use Rattle.status.specs.Latching.{run}
 use Rattle.register_map.specs.AccessRule.{channelAccess}
 use Rattle.sequencer.specs.Playing.{isIdle}
-use Rattle.life.specs.State.{happened}
+use Rattle.channel_core.specs.State.{conditionLatched}
 use Rattle.registers.specs.declared.Registers.{Registers}
 use Rattle.registers.specs.Map.{triggersOf, groupEndEvent, loaded}
 use Rattle.registers.specs.Map as reg
-use Rattle.life.specs.declared.Channel.{Channel}
-use Rattle.life.specs.Answers.{Answer, value}
-use Rattle.life.specs.Life.{started, startedIf, endedIf, resumedIf, resumedOn, groupEnded, eventOf, commanded}
+use Rattle.channel_core.specs.declared.Channel.{Channel}
+use Rattle.channel_core.specs.Answers.{Answer, value}
+use Rattle.channel_core.specs.Behaviour.{started, startedIf, endedIf, resumedIf, resumedOn, groupEnded, eventOf, commanded}
 use Rattle.channel.specs.Calls.{registerEffect, readValue}
-use Rattle.channel.specs.Alone.{ChannelCall, Alone, alone, refusalOf, effect, answer, move, says, moves, readRegister}
-use Rattle.channel.specs.Alone as call
+use Rattle.channel.specs.OneChannel.{ChannelCall, OneChannel, oneChannel, refusalOf, effect, answer, transition, response, transitions, readRegister}
+use Rattle.channel.specs.OneChannel as call
 use Rattle.channel.specs.History.{entry, history, asksGroupEnd, endsGroup, framesSince}
 use Rattle.channel.proofs.Ranges.{clash}
 use Rattle.histories.specs.Counting.{mostCounted, ShowsFrames}
@@ -34,7 +34,7 @@ Has r c = c .registers ≡ r
 started-registers : (on : Bool) (c : Channel) (delay : ℕ) → startedIf on c delay .registers ≡ c .registers
 unfolding startedIf started
 started-registers true c delay =
-    either (Has (c .registers)) (c .sequencer .armed) _ c (either (Has (c .registers)) (isIdle (c .sequencer .stage)) (happened c run) c refl refl) refl
+    either (Has (c .registers)) (c .sequencer .armed) _ c (either (Has (c .registers)) (isIdle (c .sequencer .stage)) (conditionLatched c run) c refl refl) refl
 started-registers false c delay = refl
 
 resumed-registers : (on : Bool) (c : Channel) (pause delay : ℕ) → resumedIf on c pause delay .registers ≡ c .registers
@@ -67,7 +67,7 @@ register-shown c offset word =
     (λ (x : ℕ). (eqb x 0x08 && bitAt word 2) ≡ true → registerEffect c x word .registers .shown ≡ c .sequencer .count)
     offset (λ e. clash e) (λ e. clash e) (λ e. command-shown c word e) (λ d e f g. clash (rw f at g))
 
-effect-shown : (o : Alone) (k : ChannelCall) → asksGroupEnd o k ≡ true
+effect-shown : (o : OneChannel) (k : ChannelCall) → asksGroupEnd o k ≡ true
     → effect o k .channel .registers .shown ≡ o .channel .sequencer .count
 unfolding effect
 effect-shown o (call.writeRegister lent offset word) e = register-shown (o .channel) offset word e
@@ -85,18 +85,18 @@ effect-shown o (call.writeMain lent offset word) e = clash e
 effect-shown o (call.readMain offset) e = clash e
 
 -- a Group End, from any state
-pub shown-step : (o : Alone) (k : ChannelCall) → endsGroup (entry o k) ≡ true
-    → move o k .channel .registers .shown ≡ o .channel .sequencer .count
+pub shown-step : (o : OneChannel) (k : ChannelCall) → endsGroup (entry o k) ≡ true
+    → transition o k .channel .registers .shown ≡ o .channel .sequencer .count
 shown-step o k =
-    by-refusal (λ (x : Alone) (a : Answer) (b c : Bool). b ≡ true → x .channel .registers .shown ≡ o .channel .sequencer .count) o k
+    by-refusal (λ (x : OneChannel) (a : Answer) (b c : Bool). b ≡ true → x .channel .registers .shown ≡ o .channel .sequencer .count) o k
     (λ e. effect-shown o k) (λ e. clash e)
 
-reads-high : (o : Alone) → says o (readRegister 0x10) ≡ value (o .channel .registers .shown / 65536 % 256)
-unfolding channelAccess says refusalOf answer readValue loaded
+reads-high : (o : OneChannel) → response o (readRegister 0x10) ≡ value (o .channel .registers .shown / 65536 % 256)
+unfolding channelAccess response refusalOf answer readValue loaded
 reads-high o = refl
 
-reads-low : (o : Alone) → says o (readRegister 0x12) ≡ value (o .channel .registers .shown % 65536)
-unfolding channelAccess says refusalOf answer readValue loaded
+reads-low : (o : OneChannel) → response o (readRegister 0x12) ≡ value (o .channel .registers .shown % 65536)
+unfolding channelAccess response refusalOf answer readValue loaded
 reads-low o = refl
 
 -- at most FFFFFFh, so the high byte is whole
@@ -105,10 +105,10 @@ high-byte j = omega arith
 
 pub shows-frames : ShowsFrames
 shows-frames n m setpoints readbacks ks k e =
-    let o = moves (alone n m setpoints readbacks) ks in
+    let o = transitions (oneChannel n m setpoints readbacks) ks in
     let c = shown-step o k e ∙ counts-frames n m setpoints readbacks ks in (
-      reads-high (move o k)
+      reads-high (transition o k)
           ∙ ap (λ (x : ℕ). value (x / 65536 % 256)) c
-          ∙ ap value (high-byte (framesSince 0 (history (alone n m setpoints readbacks) ks))),
-      reads-low (move o k) ∙ ap (λ (x : ℕ). value (x % 65536)) c,
+          ∙ ap value (high-byte (framesSince 0 (history (oneChannel n m setpoints readbacks) ks))),
+      reads-low (transition o k) ∙ ap (λ (x : ℕ). value (x % 65536)) c,
     )

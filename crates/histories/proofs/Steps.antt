@@ -20,19 +20,19 @@ use Rattle.sequencer.proofs.Moves.{counts}
 use Rattle.readback.specs.declared.Disposition.{Disposition}
 use Rattle.readback.specs.declared.Disposition.the-variants as disposition
 use Rattle.readback.specs.Storing.{isDue, dispositionOf, capacity}
-use Rattle.life.specs.declared.Channel.{Channel}
-use Rattle.life.specs.Answers.{Answer}
-use Rattle.life.specs.Answers as ans
-use Rattle.life.specs.Life.{endedIf, groupEnded, sendFrame, fateOf, fateAnswer, fateChannel, replyAs, replyAnswerAs, replyOf, replyAnswer}
-use Rattle.channel.specs.History.{Window, isFrame, isReceived}
+use Rattle.channel_core.specs.declared.Channel.{Channel}
+use Rattle.channel_core.specs.Answers.{Answer, isFrame, isReceived}
+use Rattle.channel_core.specs.Answers as ans
+use Rattle.channel_core.specs.Behaviour.{endedIf, groupEnded, sendFrame, dispositionNow, receiptAnswer, receivedChannel, replyAs, replyAnswerAs, replyOf, replyAnswer}
+use Rattle.channel.specs.History.{Window}
 use Rattle.channel.proofs.Ranges.{clash}
-use Rattle.histories.specs.Ranges.{Playing, Quiet}
+use Rattle.histories.specs.Ranges.{UnderWay, Quiet}
 use Rattle.histories.proofs.Keeps.{Keeps, keeps-all}
 use Rattle.histories.proofs.Ticks.{windowOf, windowSent, plays-ticked}
 
 -- what an answer adds to the window
-abbrev pub heard : Answer → Window → Window
-heard a w =
+abbrev pub observed : Answer → Window → Window
+observed a w =
     cond (isFrame a) (record { sent = true; replies = 0 })
     (cond (isReceived a) (record { sent = w .sent; replies = w .replies + 1 }) w)
 
@@ -41,16 +41,16 @@ pub record Steps (n : ℕ) (s : Sequencer) (a : Answer) (ends again : Bool) (t :
   pub count-step : t .count ≡ cond (ends || again) 0 (cond (isFrame a) (counted (s .count)) (s .count))
   pub quiet-step : Quiet s → Quiet t
   pub ended-step : ends ≡ true → t .last ≡ nothingSent
-  pub open-step : isIdle (t .stage) ≡ false → ends ≡ false → windowOf t ≡ heard a (windowOf s)
+  pub open-step : isIdle (t .stage) ≡ false → ends ≡ false → windowOf t ≡ observed a (windowOf s)
   pub replies-step : s .last .replies ≤ 6 → t .last .replies ≤ 6
-  pub playing-step : 1 ≤ n → Playing n s → Playing n t
+  pub playing-step : 1 ≤ n → UnderWay n s → UnderWay n t
 
 -- an answer to neither a tick nor a reply
 abbrev pub Plain : Answer → Type 0
 Plain a = (isFrame a ≡ false) × (isReceived a ≡ false)
 
-heard-plain : (a : Answer) (w : Window) → Plain a → heard a w ≡ w
-heard-plain a w h = rw (h .0, h .1)
+observed-plain : (a : Answer) (w : Window) → Plain a → observed a w ≡ w
+observed-plain a w h = rw (h .0, h .1)
 
 -- kept, but for what a Group End before it did
 pub keeps-steps : (n : ℕ) (c : Channel) (a : Answer) (on : Bool) (t : Sequencer) → Plain a → Keeps (endedIf on c .sequencer) t
@@ -73,7 +73,7 @@ keeps-steps n c a false t h k =
       open-step =
           λ e f.
           ap (λ (l : LastSend). let w : Window = record { sent = l .sent; replies = l .replies } in w) (k .last-kept)
-          ∙ sym (heard-plain a (windowOf (c .sequencer)) h);
+          ∙ sym (observed-plain a (windowOf (c .sequencer)) h);
       replies-step = λ e. omega (arith, ap (λ (l : LastSend). l .replies) (k .last-kept));
       playing-step = λ e p. k .playing-kept n e p;
     }
@@ -107,7 +107,7 @@ count-frame : (r : Registers) (x : Transmission) (c : ℕ) → countAfter x c �
 count-frame r transmission.Nothing c = refl
 count-frame r (transmission.Word word k) c = refl
 
-window-frame : (r : Registers) (x : Transmission) (w : Window) → windowSent x w ≡ heard (sendFrame r x) w
+window-frame : (r : Registers) (x : Transmission) (w : Window) → windowSent x w ≡ observed (sendFrame r x) w
 window-frame r transmission.Nothing w = refl
 window-frame r (transmission.Word word k) w = refl
 
@@ -154,14 +154,14 @@ answered-steps n s a plain received e =
       playing-step = λ f p. record { index-due = p .index-due; countdown = p .countdown };
     }
 
-fate-steps : (n : ℕ) (c : Channel) (m : ℕ) (right : Bool)
-    → Steps n (c .sequencer) (fateAnswer (fateOf c m)) false false (fateChannel (fateOf c m) c m right .sequencer)
-unfolding fateOf dispositionOf
-fate-steps n c m right = go (isDue (isIdle (c .sequencer .stage)) (c .sequencer .last)) (ltb (c .readbacks .stored) (capacity m)) refl
+disposition-steps : (n : ℕ) (c : Channel) (m : ℕ) (right : Bool)
+    → Steps n (c .sequencer) (receiptAnswer (dispositionNow c m)) false false (receivedChannel (dispositionNow c m) c m right .sequencer)
+unfolding dispositionNow dispositionOf
+disposition-steps n c m right = go (isDue (isIdle (c .sequencer .stage)) (c .sequencer .last)) (ltb (c .readbacks .stored) (capacity m)) refl
   where
     go : (due space : Bool) → isDue (isIdle (c .sequencer .stage)) (c .sequencer .last) ≡ due
         → let d : Disposition = cond due (cond space disposition.Kept disposition.Lost) disposition.Unsolicited in
-        Steps n (c .sequencer) (fateAnswer d) false false (fateChannel d c m right .sequencer)
+        Steps n (c .sequencer) (receiptAnswer d) false false (receivedChannel d c m right .sequencer)
     go true true e = answered-steps n (c .sequencer) ans.kept refl refl e
     go true false e = answered-steps n (c .sequencer) ans.lost refl refl e
     go false space e = same-steps n c ans.unsolicited (c .sequencer) (refl, refl) refl
@@ -172,4 +172,4 @@ reply-steps n c m f = go (read f)
   where
     go : (g : Reading) → Steps n (c .sequencer) (replyAnswerAs g c m) false false (replyAs g c m .sequencer)
     go (frame.refused k) = same-steps n c (ans.refused k) (c .sequencer) (refl, refl) refl
-    go (frame.fields id word aux crc) = fate-steps n c m (crcRight id word aux crc)
+    go (frame.fields id word aux crc) = disposition-steps n c m (crcRight id word aux crc)

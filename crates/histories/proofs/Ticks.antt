@@ -18,7 +18,7 @@ use Rattle.sequencer.specs.declared.Ticked.{Ticked}
 use Rattle.sequencer.specs.Playing.{isIdle, quiet, withLeft, withResume, sentAs, sentNext, repeated, advancing, repeating, resuming, tickedAt, ticked}
 use Rattle.channel.specs.History.{Window}
 use Rattle.channel.proofs.Ranges.{clash}
-use Rattle.histories.specs.Ranges.{Countdown, Playing, Quiet}
+use Rattle.histories.specs.Ranges.{CountdownInRange, UnderWay, Quiet}
 use Rattle.histories.proofs.Cases.{either, by-test}
 
 -- the last send, if any, and the replies after it, as the sequencer holds them
@@ -32,9 +32,9 @@ windowSent (transmission.Word word condition) w = record { sent = true; replies 
 pub record Plays (n p : ℕ) (s : Sequencer) (t : Ticked) : Type 0 where
   pub window : windowOf (t .sequencer) ≡ windowSent (t .transmission) (windowOf s)
   pub stays-quiet : Quiet s → Quiet (t .sequencer)
-  pub plays : 1 ≤ p → Playing n s → Playing n (t .sequencer)
+  pub plays : 1 ≤ p → UnderWay n s → UnderWay n (t .sequencer)
 
-countdown-left : (g : Stage) (left resume l : ℕ) → 1 ≤ l → Countdown g left resume → Countdown g l resume
+countdown-left : (g : Stage) (left resume l : ℕ) → 1 ≤ l → CountdownInRange g left resume → CountdownInRange g l resume
 countdown-left stage.Idle left resume l h c = c
 countdown-left stage.Starting left resume l h c = h
 countdown-left stage.Running left resume l h c = h
@@ -42,7 +42,7 @@ countdown-left (stage.Paused k) left resume l h c = (h, c .1)
 countdown-left stage.Resuming left resume l h c = (h, c .1)
 countdown-left stage.Ended left resume l h c = h
 
-countdown-resume : (g : Stage) (left resume r : ℕ) → 1 ≤ r → Countdown g left resume → Countdown g left r
+countdown-resume : (g : Stage) (left resume r : ℕ) → 1 ≤ r → CountdownInRange g left resume → CountdownInRange g left r
 countdown-resume stage.Idle left resume r h c = c
 countdown-resume stage.Starting left resume r h c = c
 countdown-resume stage.Running left resume r h c = c
@@ -78,7 +78,7 @@ sent-index n index kind.Plain a h = omega (arith, leb-false n (index + 1) a)
 sent-index n index (kind.Pause k) a h = omega (arith, leb-false n (index + 1) (a .0))
 sent-index n index kind.Last a h = h
 
-sent-countdown : (end : Bool) (p : ℕ) (k : Kind) → Asks end k → 1 ≤ p → Countdown (stageAfter k) p 0
+sent-countdown : (end : Bool) (p : ℕ) (k : Kind) → Asks end k → 1 ≤ p → CountdownInRange (stageAfter k) p 0
 sent-countdown end p kind.Plain a h = h
 sent-countdown end p (kind.Pause k) a h = (h, a .1)
 sent-countdown end p kind.Last a h = h

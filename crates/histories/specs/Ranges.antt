@@ -11,28 +11,28 @@ use Rattle.sequencer.specs.declared.Stage.the-variants as stage
 use Rattle.sequencer.specs.declared.Sequencer.{Sequencer}
 use Rattle.sequencer.specs.Playing.{isIdle, nothingSent}
 use Rattle.readback.specs.declared.Readbacks.{Readbacks}
-use Rattle.life.specs.declared.Channel.{Channel}
-use Rattle.channel.specs.Alone.{ChannelCall, Alone, alone, move, moves}
+use Rattle.channel_core.specs.declared.Channel.{Channel}
+use Rattle.channel.specs.OneChannel.{ChannelCall, OneChannel, oneChannel, transition, transitions}
 
 -- the ticks to the next send, and those of a resume, while there are any to count; pauses are 0 (VME) to 4
-abbrev pub Countdown : Stage → ℕ → ℕ → Type 0
-Countdown stage.Idle left resume = Unit {0}
-Countdown stage.Starting left resume = 1 ≤ left
-Countdown stage.Running left resume = 1 ≤ left
-Countdown (stage.Paused k) left resume = (1 ≤ left) × (k ≤ 4)
-Countdown stage.Resuming left resume = (1 ≤ left) × (1 ≤ resume)
-Countdown stage.Ended left resume = 1 ≤ left
+abbrev pub CountdownInRange : Stage → ℕ → ℕ → Type 0
+CountdownInRange stage.Idle left resume = Unit {0}
+CountdownInRange stage.Starting left resume = 1 ≤ left
+CountdownInRange stage.Running left resume = 1 ≤ left
+CountdownInRange (stage.Paused k) left resume = (1 ≤ left) × (k ≤ 4)
+CountdownInRange stage.Resuming left resume = (1 ≤ left) × (1 ≤ resume)
+CountdownInRange stage.Ended left resume = 1 ≤ left
 
-pub record Playing (n : ℕ) (s : Sequencer) : Type 0 where
+pub record UnderWay (n : ℕ) (s : Sequencer) : Type 0 where
   pub index-due : s .index < n
-  pub countdown : Countdown (s .stage) (s .left) (s .resume)
+  pub countdown : CountdownInRange (s .stage) (s .left) (s .resume)
 
 -- the last send is one "since idle"
 abbrev pub Quiet : Sequencer → Type 0
 Quiet s = isIdle (s .stage) ≡ true → s .last ≡ nothingSent
 
 pub record SequencerInRange (n : ℕ) (s : Sequencer) : Type 0 where
-  pub playing : Playing n s
+  pub playing : UnderWay n s
   pub replies : s .last .replies ≤ 6
   pub quiet : Quiet s
 
@@ -57,7 +57,7 @@ pub record ChannelInRange (m : ℕ) (c : Channel) : Type 0 where
   pub registers : RegistersInRange (c .registers)
   pub readbacks : ReadbacksInRange m (c .readbacks)
 
-pub record InRange (o : Alone) : Type 0 where
+pub record InRange (o : OneChannel) : Type 0 where
   pub depth : 1 ≤ o .n
   pub readback-depth : 1 ≤ o .m
   pub user-from : 1 ≤ o .user
@@ -69,11 +69,11 @@ pub record InRange (o : Alone) : Type 0 where
 
 -- one call, refused or not, from any state in range
 abbrev pub CallKeepsRange : Type 0
-CallKeepsRange = (o : Alone) (k : ChannelCall) → InRange o → InRange (move o k)
+CallKeepsRange = (o : OneChannel) (k : ChannelCall) → InRange o → InRange (transition o k)
 
 -- from an opening of fitting lengths, after any list of calls
 abbrev pub StaysInRange : Type 0
 StaysInRange =
     (n m : ℕ) (setpoints readbacks : List ℕ)
     → 1 ≤ n → 1 ≤ m → length setpoints ≡ n * 16 → length readbacks ≡ m * 2
-    → (ks : List ChannelCall) → InRange (moves (alone n m setpoints readbacks) ks)
+    → (ks : List ChannelCall) → InRange (transitions (oneChannel n m setpoints readbacks) ks)

@@ -2,10 +2,10 @@
 use mathlib.Core.Path.{_≡_}
 use mathlib.Core.Bool.{false}
 use lib.Dec.{eqb}
-use Rattle.life.specs.Answers.{refused}
-use Rattle.channel.specs.Alone.{ChannelCall, Alone, refusalOf, move, says}
+use Rattle.channel_core.specs.Answers.{refused}
+use Rattle.channel.specs.OneChannel.{ChannelCall, OneChannel, refusalOf, transition, response}
 
 -- whatever the state and the call: refused, it leaves all as it was, and answers the refusal's number alone
 abbrev pub RefusedChangesNothing : Type 0
 RefusedChangesNothing =
-    (o : Alone) (k : ChannelCall) → eqb (refusalOf o k) 0 ≡ false → (move o k ≡ o) × (says o k ≡ refused (refusalOf o k))
+    (o : OneChannel) (k : ChannelCall) → eqb (refusalOf o k) 0 ≡ false → (transition o k ≡ o) × (response o k ≡ refused (refusalOf o k))

@@ -9,14 +9,13 @@ use lib.Seq.{getD-set-same, getD-set-other, set-getD}
 use lib.Dec.{eqb, ltb}
 use borrow.Author.Tests.{ltb-true, ltb-false, le-ltb, lt-ltb}
 use Rattle.register_map.specs.Addresses.{named, main, channel, nothing}
-use Rattle.life.specs.declared.Channel.{Channel}
-use Rattle.life.specs.State.{opened}
-use Rattle.life.specs.Answers.{Answer}
+use Rattle.channel_core.specs.declared.Channel.{Channel}
+use Rattle.channel_core.specs.State.{opened}
+use Rattle.channel_core.specs.Answers.{Answer, isRefusal}
 use Rattle.channel.specs.Calls.{unless}
 use Rattle.board_state.specs.declared.Board.{Board}
-use Rattle.board_state.specs.State.{chan, put, withChannels}
+use Rattle.board_state.specs.State.{channelAt, withChannelAt, withChannels}
 use Rattle.board.specs.Calls.{noChannel}
-use Rattle.isolation.specs.Calls.{refuses}
 use Rattle.isolation.specs.Feeding.{ofFour}
 use Rattle.isolation.proofs.Parts.{Number}
 
@@ -29,7 +28,7 @@ cond-case P true f g = f refl
 cond-case P false f g = g refl
 
 -- what is refused, though its answer is none, is so by its number
-pub unless-refused : (k : ℕ) (a : Answer) → refuses a ≡ false → refuses (unless k a) ≡ true → eqb k 0 ≡ false
+pub unless-refused : (k : ℕ) (a : Answer) → isRefusal a ≡ false → isRefusal (unless k a) ≡ true → eqb k 0 ≡ false
 unless-refused k a q h = go (eqb k 0) refl
   where
     go : (t : Bool) → eqb k 0 ≡ t → t ≡ false
@@ -64,14 +63,14 @@ of-four f (suc (suc (suc (suc zero)))) h = refl
 of-four f (suc (suc (suc (suc (suc c))))) h = absurd (omega arith)
 
 -- a channel after one is put back
-pub put-same : (b : Board) (c : ℕ) (x : Channel) → length (b .channels) ≡ 4 → Number c → chan (put b c x) c ≡ x
-put-same b c x e h = getD-set-same (b .channels) (c - 1) x opened (omega arith)
+pub withChannelAt-same : (b : Board) (c : ℕ) (x : Channel) → length (b .channels) ≡ 4 → Number c → channelAt (withChannelAt b c x) c ≡ x
+withChannelAt-same b c x e h = getD-set-same (b .channels) (c - 1) x opened (omega arith)
 
-pub put-other : (b : Board) (d c : ℕ) (x : Channel) → Number d → Number c → (c ≡ d → ⊥) → chan (put b d x) c ≡ chan b c
-put-other b d c x low h ne = getD-set-other (b .channels) (d - 1) (c - 1) x opened (λ e. ne (omega arith))
+pub withChannelAt-other : (b : Board) (d c : ℕ) (x : Channel) → Number d → Number c → (c ≡ d → ⊥) → channelAt (withChannelAt b d x) c ≡ channelAt b c
+withChannelAt-other b d c x low h ne = getD-set-other (b .channels) (d - 1) (c - 1) x opened (λ e. ne (omega arith))
 
-pub put-own : (b : Board) (d : ℕ) → put b d (chan b d) ≡ b
-put-own b d = ap (withChannels b) (set-getD (b .channels) (d - 1) opened)
+pub withChannelAt-own : (b : Board) (d : ℕ) → withChannelAt b d (channelAt b d) ≡ b
+withChannelAt-own b d = ap (withChannels b) (set-getD (b .channels) (d - 1) opened)
 
 -- ---- Numbers of channels
 

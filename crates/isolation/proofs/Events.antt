@@ -7,20 +7,20 @@ use native.Mathlib.Omega.{arith}
 use lib.ListN.{length, length-set}
 use lib.Dec.{eqb}
 use borrow.Author.Tests.{eqb-true, eqb-false}
-use Rattle.life.specs.Life as life
-use Rattle.channel.specs.Alone.{Alone, withReadbacks}
-use Rattle.board_state.specs.State.{chan}
+use Rattle.channel_core.specs.Behaviour as core
+use Rattle.channel.specs.OneChannel.{OneChannel, withReadbacks}
+use Rattle.board_state.specs.State.{channelAt}
 use Rattle.board.specs.Parts.{own}
 use Rattle.board.specs.Calls.{eventBoardAt, eventWordsAt, eventBoards, eventParts}
-use Rattle.isolation.specs.Calls.{World}
+use Rattle.board.specs.Worlds.{World}
 use Rattle.isolation.specs.Feeding.{view}
 use Rattle.isolation.proofs.Parts.{Number, own-length, own-mine, own-theirs, own-kept}
-use Rattle.isolation.proofs.Cases.{put-same, put-other}
+use Rattle.isolation.proofs.Cases.{withChannelAt-same, withChannelAt-other}
 use Rattle.isolation.proofs.Words.{event-length}
 use Rattle.isolation.proofs.Worlds.{Good, parted-reads}
 
-abbrev pub evented : Alone → ℕ → Alone
-evented o k = withReadbacks o (life.eventOf (o .channel) (o .user) k) (life.eventWords (o .channel) (o .readbacks) (o .m) k)
+abbrev pub evented : OneChannel → ℕ → OneChannel
+evented o k = withReadbacks o (core.eventOf (o .channel) (o .user) k) (core.eventWords (o .channel) (o .readbacks) (o .m) k)
 
 -- the event at channel d
 abbrev partly : World → ℕ → ℕ → World
@@ -32,11 +32,11 @@ module _ (w : World) (g : Good w) (k d : ℕ) (low : Number d) where
   part-whole = g .reads ∙ parted-reads (w .board)
 
   abbrev partWords : List ℕ
-  partWords = life.eventWords (chan (w .board) d) (own (w .readbacks) (w .board .m * 2) d) (w .board .m) k
+  partWords = core.eventWords (channelAt (w .board) d) (own (w .readbacks) (w .board .m * 2) d) (w .board .m) k
 
   part-same : length partWords ≡ w .board .m * 2
   part-same =
-      event-length (chan (w .board) d) (own (w .readbacks) (w .board .m * 2) d) (w .board .m) k
+      event-length (channelAt (w .board) d) (own (w .readbacks) (w .board .m * 2) d) (w .board .m) k
       ∙ own-length (w .readbacks) (w .board .m * 2) part-whole d low
 
   good-part : Good (partly w k d)
@@ -51,13 +51,13 @@ module _ (w : World) (g : Good w) (k d : ℕ) (low : Number d) where
   view-part : view d (partly w k d) ≡ evented (view d w) k
   unfolding eventBoardAt eventWordsAt
   view-part =
-      ap₂ (withReadbacks (view d w)) (put-same (w .board) d _ (g .four) low)
+      ap₂ (withReadbacks (view d w)) (withChannelAt-same (w .board) d _ (g .four) low)
       (own-mine (w .readbacks) (w .board .m * 2) part-whole d partWords low part-same)
 
   other-part : (c : ℕ) → Number c → (c ≡ d → ⊥) → view c (partly w k d) ≡ view c w
   unfolding eventBoardAt eventWordsAt
   other-part c h ne =
-      ap₂ (withReadbacks (view c w)) (put-other (w .board) d c _ low h ne)
+      ap₂ (withReadbacks (view c w)) (withChannelAt-other (w .board) d c _ low h ne)
       (own-theirs (w .readbacks) (w .board .m * 2) part-whole d partWords low part-same c h ne)
 
 -- channels 1 to j done
@@ -85,7 +85,7 @@ module _ (w : World) (g : Good w) (k : ℕ) where
   unfolding eventBoards eventParts
   at-it j l =
       view-part (firstOnes j) (good-first j (omega arith)) k (suc j) (next j l)
-      ∙ ap (λ (o : Alone). evented o k) (before-it (suc j) (next j l) j (omega arith))
+      ∙ ap (λ (o : OneChannel). evented o k) (before-it (suc j) (next j l) j (omega arith))
 
   pub past-it : (c : ℕ) → Number c → (j : ℕ) → c ≤ j → j ≤ 4 → view c (firstOnes j) ≡ evented (view c w) k
   unfolding eventBoards eventParts

@@ -8,20 +8,21 @@ use native.Mathlib.Omega.{arith}
 use lib.ListN.{length}
 use lib.Dec.{eqb}
 use borrow.Author.Tests.{eqb-true}
-use Rattle.life.specs.State as life
-use Rattle.life.specs.Answers.{Answer}
-use Rattle.life.specs.Answers as ans
+use Rattle.channel_core.specs.State as core
+use Rattle.channel_core.specs.Answers.{Answer}
+use Rattle.channel_core.specs.Answers as ans
 use Rattle.channel.specs.Calls.{outside}
 use Rattle.channel.proofs.Ranges.{inside}
-use Rattle.channel.specs.Alone.{Alone, alone, withChannel, moves, tells}
+use Rattle.channel.specs.OneChannel.{OneChannel, oneChannel, withChannel, transitions, responses}
 use Rattle.board_state.specs.State as state
 use Rattle.board.specs.Calls.{openRefusal, openAnswer, openBoard}
-use Rattle.isolation.specs.Calls.{Item, World, refused, given, step, Fits, Allowed, opening}
+use Rattle.board.specs.Worlds.{World}
+use Rattle.isolation.specs.Calls.{Item, refused, given, step, Fits, Allowed, opening}
 use Rattle.isolation.specs.Feeding.{feeds, fed, view}
-use Rattle.isolation.specs.Isolation.{aloneAt, AsAlone, Isolation, FedTheSame}
+use Rattle.isolation.specs.Isolation.{oneChannelAt, MatchesOneChannel, Isolation, FedTheSame}
 use Rattle.isolation.proofs.Parts.{Number}
 use Rattle.isolation.proofs.Cases.{clash}
-use Rattle.isolation.proofs.One.{moves-append, tells-append}
+use Rattle.isolation.proofs.One.{transitions-append, responses-append}
 use Rattle.isolation.proofs.Worlds.{Good, either, step-refused, step-given}
 use Rattle.isolation.proofs.Shapes.{good-plain}
 use Rattle.isolation.proofs.Items.{Holds, item}
@@ -35,21 +36,21 @@ good-step w g i f = go (either w i f)
     go (inl e) = subst Good (sym (step-refused w i e)) g
     go (inr e) = subst Good (sym (step-given w i e)) (good-plain w g (i .call))
 
-along : (c : ℕ) → Number c → (xs : List Item) (w : World) → Good w → Allowed w xs → AsAlone c w xs (view c w)
-along c h [] w g a = record { heard = refl; ends = refl }
+along : (c : ℕ) → Number c → (xs : List Item) (w : World) → Good w → Allowed w xs → MatchesOneChannel c w xs (view c w)
+along c h [] w g a = record { observed = refl; ends = refl }
 along c h (i ∷ is) w g a =
     let s : Holds c w i = item w g c h (i .lent) (i .call) (a .0) in
-    let r : AsAlone c (step w i) is (view c (step w i)) = along c h is (step w i) (good-step w g i (a .0)) (a .1) in
+    let r : MatchesOneChannel c (step w i) is (view c (step w i)) = along c h is (step w i) (good-step w g i (a .0)) (a .1) in
     record {
-      heard =
-          ap₂ (λ (p q : List Answer). p ++ q) (s .heard) (r .heard ∙ ap (λ (o : Alone). tells o (fed c is)) (s .seen))
-          ∙ sym (tells-append (view c w) (feeds c i) (fed c is));
-      ends = r .ends ∙ ap (λ (o : Alone). moves o (fed c is)) (s .seen) ∙ sym (moves-append (view c w) (feeds c i) (fed c is));
+      observed =
+          ap₂ (λ (p q : List Answer). p ++ q) (s .observed) (r .observed ∙ ap (λ (o : OneChannel). responses o (fed c is)) (s .seen))
+          ∙ sym (responses-append (view c w) (feeds c i) (fed c is));
+      ends = r .ends ∙ ap (λ (o : OneChannel). transitions o (fed c is)) (s .seen) ∙ sym (transitions-append (view c w) (feeds c i) (fed c is));
     }
 
 -- ---- From an opening
 
-open-channel : (n m c : ℕ) → Number c → state.chan (state.opened n m) c ≡ life.opened
+open-channel : (n m c : ℕ) → Number c → state.channelAt (state.opened n m) c ≡ core.opened
 unfolding state.opened
 open-channel n m zero h = refl
 open-channel n m (suc zero) h = refl
@@ -106,22 +107,22 @@ module _ (n m : ℕ) (s r : List ℕ) (e : openAnswer n m (length s) (length r) 
   unfolding state.opened
   good-opening = subst Good (sym open-world) (record { four = refl; sets = open-lengths .0; reads = open-lengths .1 })
 
-  view-opening : (c : ℕ) → Number c → view c (opening n m s r) ≡ aloneAt c n m s r
+  view-opening : (c : ℕ) → Number c → view c (opening n m s r) ≡ oneChannelAt c n m s r
   unfolding state.opened
   view-opening c h =
-      ap (view c) open-world ∙ ap (withChannel (aloneAt c n m s r)) (open-channel n m c h)
+      ap (view c) open-world ∙ ap (withChannel (oneChannelAt c n m s r)) (open-channel n m c h)
 
 pub isolation : Isolation
 isolation n m s r e c low high xs a =
     let h : Number c = record { low = low; high = high } in
-    subst (AsAlone c (opening n m s r) xs) (view-opening n m s r e c h)
+    subst (MatchesOneChannel c (opening n m s r) xs) (view-opening n m s r e c h)
     (along c h xs (opening n m s r) (good-opening n m s r e) a)
 
 pub fed-the-same : FedTheSame
 fed-the-same n m s r s' r' e e' c low high p q xs ys a b same =
     let x = isolation n m s r e c low high xs a in
     let y = isolation n m s' r' e' c low high ys b in
-    (x .heard ∙ ap₂ tells o same ∙ sym (y .heard), x .ends ∙ ap₂ moves o same ∙ sym (y .ends))
+    (x .observed ∙ ap₂ responses o same ∙ sym (y .observed), x .ends ∙ ap₂ transitions o same ∙ sym (y .ends))
   where
-    o : aloneAt c n m s r ≡ aloneAt c n m s' r'
-    o = ap₂ (alone n m) p q
+    o : oneChannelAt c n m s r ≡ oneChannelAt c n m s' r'
+    o = ap₂ (oneChannel n m) p q

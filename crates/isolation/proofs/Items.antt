@@ -8,52 +8,53 @@ use lib.ListN.{length}
 use lib.Dec.{eqb}
 use borrow.Author.Tests.{eqb-true, eqb-false}
 use Rattle.register_map.specs.Addresses.{Named, named, main, channel, nothing}
-use Rattle.life.specs.Answers.{Answer}
-use Rattle.channel.specs.Alone.{ChannelCall, move, says, moves, tells}
-use Rattle.channel.specs.Alone as to
-use Rattle.board.specs.Answers.{Said}
-use Rattle.isolation.specs.Calls.{Call, writeRegister, readRegister, writeSetpoint, arm, disarm, reply, retired, retiredLength, tick, event, changeUser, interruptLevel, Lent, first, second, Item, World, answer, after, refuses, refused, given, step, Fits}
-use Rattle.isolation.specs.Feeding.{only, feeds, said, shared, sharedRead, hear, view}
+use Rattle.channel_core.specs.Answers.{Answer, isRefusal}
+use Rattle.channel.specs.OneChannel.{ChannelCall, transition, response, transitions, responses}
+use Rattle.channel.specs.OneChannel as to
+use Rattle.board.specs.Answers.{BoardAnswer}
+use Rattle.board.specs.Worlds.{World}
+use Rattle.isolation.specs.Calls.{Call, writeRegister, readRegister, writeSetpoint, arm, disarm, reply, retired, retiredLength, tick, event, changeUser, interruptLevel, Lent, first, second, Item, answer, after, refused, given, step, Fits}
+use Rattle.isolation.specs.Feeding.{only, feeds, said, shared, sharedRead, observe, view}
 use Rattle.isolation.proofs.Parts.{Number}
 use Rattle.isolation.proofs.One.{still}
 use Rattle.isolation.proofs.Worlds.{Good, either, step-refused, step-given, plain}
 use Rattle.isolation.proofs.Views.{view-write, view-read, view-setpoint, view-arm, view-disarm, view-reply, view-retired, view-retiredLength, view-tick, view-event, view-user, view-write-main, view-read-main}
 use Rattle.isolation.proofs.Others.{other-write, other-read, other-setpoint, other-arm, other-disarm, other-reply, nothing-write, nothing-read}
-use Rattle.isolation.proofs.Hearing.{said-refused, shared-refused, sharedRead-refused, hear-write, hear-read, hear-setpoint, hear-arm, hear-disarm, hear-reply, hear-event, hear-user, hear-write-main, hear-read-main, hear-retired, hear-retiredLength, hear-tick}
+use Rattle.isolation.proofs.Observing.{said-refused, shared-refused, sharedRead-refused, observe-write, observe-read, observe-setpoint, observe-arm, observe-disarm, observe-reply, observe-event, observe-user, observe-write-main, observe-read-main, observe-retired, observe-retiredLength, observe-tick}
 
 abbrev at : Call → Lent → Item
 at x l = record { call = x; lent = l }
 
 pub record Holds (c : ℕ) (w : World) (i : Item) : Type 0 where
-  pub seen : view c (step w i) ≡ moves (view c w) (feeds c i)
-  pub heard : hear c (i .call) (answer (w .board) (i .call) (i .lent)) ≡ tells (view c w) (feeds c i)
+  pub seen : view c (step w i) ≡ transitions (view c w) (feeds c i)
+  pub observed : observe c (i .call) (answer (w .board) (i .call) (i .lent)) ≡ responses (view c w) (feeds c i)
 
 module _ (w : World) (c : ℕ) (x : Call) (l : Lent) (f : Fits w (at x l)) where
   abbrev told : Answer
   told = said c (answer (w .board) x l)
 
   -- fed one call: where it is refused, both stand still
-  ours : (k : ChannelCall) (a : Answer) → feeds c (at x l) ≡ k ∷ [] → hear c x (answer (w .board) x l) ≡ a ∷ []
-      → (refuses told ≡ true → refuses a ≡ true)
-      → a ≡ says (view c w) k
-      → (l ≡ given w x → view c (plain w x) ≡ move (view c w) k)
+  ours : (k : ChannelCall) (a : Answer) → feeds c (at x l) ≡ k ∷ [] → observe c x (answer (w .board) x l) ≡ a ∷ []
+      → (isRefusal told ≡ true → isRefusal a ≡ true)
+      → a ≡ response (view c w) k
+      → (l ≡ given w x → view c (plain w x) ≡ transition (view c w) k)
       → Holds c w (at x l)
   ours k a e p r s v =
       record {
-        seen = go (either w (at x l) f) ∙ ap (moves (view c w)) (sym e);
-        heard = p ∙ ap (λ (b : Answer). b ∷ []) s ∙ ap (tells (view c w)) (sym e);
+        seen = go (either w (at x l) f) ∙ ap (transitions (view c w)) (sym e);
+        observed = p ∙ ap (λ (b : Answer). b ∷ []) s ∙ ap (responses (view c w)) (sym e);
       }
     where
-      go : ((refused (w .board) x l ≡ true) ⊎ (l ≡ given w x)) → view c (step w (at x l)) ≡ move (view c w) k
+      go : ((refused (w .board) x l ≡ true) ⊎ (l ≡ given w x)) → view c (step w (at x l)) ≡ transition (view c w) k
       go (inl q) =
           ap (view c) (step-refused w (at x l) q)
-          ∙ sym (still (view c w) k (ap refuses (sym s) ∙ r (said-refused c (answer (w .board) x l) q)))
+          ∙ sym (still (view c w) k (ap isRefusal (sym s) ∙ r (said-refused c (answer (w .board) x l) q)))
       go (inr q) = ap (view c) (step-given w (at x l) q) ∙ v q
 
   -- fed nothing
-  theirs : feeds c (at x l) ≡ [] → hear c x (answer (w .board) x l) ≡ [] → view c (plain w x) ≡ view c w → Holds c w (at x l)
+  theirs : feeds c (at x l) ≡ [] → observe c x (answer (w .board) x l) ≡ [] → view c (plain w x) ≡ view c w → Holds c w (at x l)
   theirs e p v =
-      record { seen = go (either w (at x l) f) ∙ ap (moves (view c w)) (sym e); heard = p ∙ ap (tells (view c w)) (sym e) }
+      record { seen = go (either w (at x l) f) ∙ ap (transitions (view c w)) (sym e); observed = p ∙ ap (responses (view c w)) (sym e) }
     where
       go : ((refused (w .board) x l ≡ true) ⊎ (l ≡ given w x)) → view c (step w (at x l)) ≡ view c w
       go (inl q) = ap (view c) (step-refused w (at x l) q)
@@ -61,9 +62,9 @@ module _ (w : World) (c : ℕ) (x : Call) (l : Lent) (f : Fits w (at x l)) where
 
   -- a call that names channel d: this one, or another
   naming : (d : ℕ) (k : ChannelCall) → feeds c (at x l) ≡ only (eqb d c) k
-      → hear c x (answer (w .board) x l) ≡ only (eqb d c) told
-      → (d ≡ c → told ≡ says (view c w) k)
-      → (d ≡ c → l ≡ given w x → view c (plain w x) ≡ move (view c w) k)
+      → observe c x (answer (w .board) x l) ≡ only (eqb d c) told
+      → (d ≡ c → told ≡ response (view c w) k)
+      → (d ≡ c → l ≡ given w x → view c (plain w x) ≡ transition (view c w) k)
       → ((c ≡ d → ⊥) → view c (plain w x) ≡ view c w)
       → Holds c w (at x l)
   naming d k e p s v other = go (eqb d c) refl
@@ -79,21 +80,21 @@ module _ (w : World) (c : ℕ) (x : Call) (l : Lent) (f : Fits w (at x l)) where
 -- a call by a channel's number
 by-number : (w : World) (c : ℕ) (l : Lent) (x : ℕ → Call) (k : ChannelCall)
     → ((d : ℕ) → feeds c (at (x d) l) ≡ only (eqb d c) k)
-    → ((d : ℕ) (s : Said) → hear c (x d) s ≡ only (eqb d c) (said c s))
-    → (Fits w (at (x c) l) → said c (answer (w .board) (x c) l) ≡ says (view c w) k)
-    → (l ≡ given w (x c) → view c (plain w (x c)) ≡ move (view c w) k)
+    → ((d : ℕ) (s : BoardAnswer) → observe c (x d) s ≡ only (eqb d c) (said c s))
+    → (Fits w (at (x c) l) → said c (answer (w .board) (x c) l) ≡ response (view c w) k)
+    → (l ≡ given w (x c) → view c (plain w (x c)) ≡ transition (view c w) k)
     → ((d : ℕ) → (c ≡ d → ⊥) → view c (plain w (x d)) ≡ view c w)
     → (d : ℕ) → Fits w (at (x d) l) → Holds c w (at (x d) l)
 by-number w c l x k e p s v other d f =
     naming w c (x d) l f d k (e d) (p d (answer (w .board) (x d) l))
-    (λ q. subst (λ (d : ℕ). Fits w (at (x d) l) → said c (answer (w .board) (x d) l) ≡ says (view c w) k) (sym q) s f)
-    (λ q. subst (λ (d : ℕ). l ≡ given w (x d) → view c (plain w (x d)) ≡ move (view c w) k) (sym q) v)
+    (λ q. subst (λ (d : ℕ). Fits w (at (x d) l) → said c (answer (w .board) (x d) l) ≡ response (view c w) k) (sym q) s f)
+    (λ q. subst (λ (d : ℕ). l ≡ given w (x d) → view c (plain w (x d)) ≡ transition (view c w) k) (sym q) v)
     (other d)
 
 module _ (w : World) (g : Good w) (c : ℕ) (h : Number c) (l : Lent) where
   -- the machine's call with the length of what is lent, where that is the memory as left
-  at-length : (k : ℕ → ChannelCall) {m : Lent} → l ≡ m → move (view c w) (k (length (first m))) ≡ move (view c w) (k (length (first l)))
-  at-length k q = ap (λ (m : Lent). move (view c w) (k (length (first m)))) (sym q)
+  at-length : (k : ℕ → ChannelCall) {m : Lent} → l ≡ m → transition (view c w) (k (length (first m))) ≡ transition (view c w) (k (length (first l)))
+  at-length k q = ap (λ (m : Lent). transition (view c w) (k (length (first m)))) (sym q)
 
   -- ---- Register calls, by what the address names
 
@@ -104,11 +105,11 @@ module _ (w : World) (g : Good w) (c : ℕ) (h : Number c) (l : Lent) where
       go (main o) e =
           ours w c (writeRegister a v) l f (to.writeMain (length (first l)) o v)
           (shared (said c (answer (w .board) (writeRegister a v) l))) (rw e) (rw e)
-          (shared-refused (said c (answer (w .board) (writeRegister a v) l))) (hear-write-main w c h a o v l e)
+          (shared-refused (said c (answer (w .board) (writeRegister a v) l))) (observe-write-main w c h a o v l e)
           (λ q. view-write-main w g c h a o v e ∙ at-length (λ (k : ℕ). to.writeMain k o v) q)
       go (channel d o) e =
           naming w c (writeRegister a v) l f d (to.writeRegister (length (first l)) o v) (rw e) (rw e)
-          (λ q. hear-write w c h a o v l (e ∙ ap (λ (d : ℕ). channel d o) q))
+          (λ q. observe-write w c h a o v l (e ∙ ap (λ (d : ℕ). channel d o) q))
           (λ q r. view-write w g c h a o v (e ∙ ap (λ (d : ℕ). channel d o) q) ∙ at-length (λ (k : ℕ). to.writeRegister k o v) r)
           (λ ne. other-write w c h d ne a o v e)
       go nothing e = theirs w c (writeRegister a v) l f (rw e) (rw e) (nothing-write w c a v e)
@@ -119,11 +120,11 @@ module _ (w : World) (g : Good w) (c : ℕ) (h : Number c) (l : Lent) where
       go : (n : Named) → named a ≡ n → Holds c w (at (readRegister a) l)
       go (main o) e =
           ours w c (readRegister a) l f (to.readMain o) (sharedRead c o (said c (answer (w .board) (readRegister a) l))) (rw e) (rw e)
-          (sharedRead-refused c o (said c (answer (w .board) (readRegister a) l))) (hear-read-main w c h a o l e)
+          (sharedRead-refused c o (said c (answer (w .board) (readRegister a) l))) (observe-read-main w c h a o l e)
           (λ q. view-read-main w g c h a o e)
       go (channel d o) e =
           naming w c (readRegister a) l f d (to.readRegister o) (rw e) (rw e)
-          (λ q. hear-read w c h a o l (e ∙ ap (λ (d : ℕ). channel d o) q))
+          (λ q. observe-read w c h a o l (e ∙ ap (λ (d : ℕ). channel d o) q))
           (λ q r. view-read w g c h a o (e ∙ ap (λ (d : ℕ). channel d o) q))
           (λ ne. other-read w c h d ne a o e)
       go nothing e = theirs w c (readRegister a) l f (rw e) (rw e) (nothing-read w c a e)
@@ -133,31 +134,31 @@ module _ (w : World) (g : Good w) (c : ℕ) (h : Number c) (l : Lent) where
   item-setpoint : (d u b i y : ℕ) → Fits w (at (writeSetpoint d u b i y) l) → Holds c w (at (writeSetpoint d u b i y) l)
   item-setpoint d u b i y =
       by-number w c l (λ (d : ℕ). writeSetpoint d u b i y) (to.writeSetpoint (length (first l)) u b i y) (λ d. refl) (λ d s. refl)
-      (λ f. hear-setpoint w c h u b i y l)
+      (λ f. observe-setpoint w c h u b i y l)
       (λ q. view-setpoint w g c h u b i y ∙ at-length (λ (k : ℕ). to.writeSetpoint k u b i y) q)
       (λ d ne. other-setpoint w c h d ne u b i y) d
 
   item-arm : (d : ℕ) → Fits w (at (arm d) l) → Holds c w (at (arm d) l)
   item-arm =
-      by-number w c l arm to.arm (λ d. refl) (λ d s. refl) (λ f. hear-arm w c h l) (λ q. view-arm w g c h)
+      by-number w c l arm to.arm (λ d. refl) (λ d s. refl) (λ f. observe-arm w c h l) (λ q. view-arm w g c h)
       (λ d ne. other-arm w c h d ne)
 
   item-disarm : (d : ℕ) → Fits w (at (disarm d) l) → Holds c w (at (disarm d) l)
   item-disarm =
-      by-number w c l disarm to.disarm (λ d. refl) (λ d s. refl) (λ f. hear-disarm w c h l) (λ q. view-disarm w g c h)
+      by-number w c l disarm to.disarm (λ d. refl) (λ d s. refl) (λ f. observe-disarm w c h l) (λ q. view-disarm w g c h)
       (λ d ne. other-disarm w c h d ne)
 
   item-reply : (d y : ℕ) → Fits w (at (reply d y) l) → Holds c w (at (reply d y) l)
   item-reply d y =
       by-number w c l (λ (d : ℕ). reply d y) (to.reply (length (first l)) y) (λ d. refl) (λ d s. refl)
-      (λ f. hear-reply w c h y l) (λ q. view-reply w g c h y ∙ at-length (λ (k : ℕ). to.reply k y) q)
+      (λ f. observe-reply w c h y l) (λ q. view-reply w g c h y ∙ at-length (λ (k : ℕ). to.reply k y) q)
       (λ d ne. other-reply w c h d ne y) d
 
   item-retired : (d : ℕ) → Fits w (at (retired d) l) → Holds c w (at (retired d) l)
   unfolding after
   item-retired =
       by-number w c l retired (to.retired (length (first l)) (length (second l))) (λ d. refl) (λ d s. refl)
-      (λ f. hear-retired w c h l (either w (at (retired c) l) f))
+      (λ f. observe-retired w c h l (either w (at (retired c) l) f))
       (λ q. view-retired w g c h c (length (first l)) (length (second l)))
       (λ d ne. refl)
 
@@ -165,7 +166,7 @@ module _ (w : World) (g : Good w) (c : ℕ) (h : Number c) (l : Lent) where
   unfolding after
   item-retiredLength =
       by-number w c l retiredLength (to.retiredLength (length (first l)) (length (second l))) (λ d. refl) (λ d s. refl)
-      (λ f. hear-retiredLength w c h l (either w (at (retiredLength c) l) f))
+      (λ f. observe-retiredLength w c h l (either w (at (retiredLength c) l) f))
       (λ q. view-retiredLength w g c h c (length (first l)) (length (second l)))
       (λ d ne. refl)
 
@@ -174,18 +175,18 @@ module _ (w : World) (g : Good w) (c : ℕ) (h : Number c) (l : Lent) where
   item-tick : Fits w (at tick l) → Holds c w (at tick l)
   item-tick f =
       ours w c tick l f (to.tick (length (first l))) (said c (answer (w .board) tick l)) refl refl (λ q. q)
-      (hear-tick w c h g l (either w (at tick l) f)) (λ q. view-tick w g c h ∙ at-length (λ (k : ℕ). to.tick k) q)
+      (observe-tick w c h g l (either w (at tick l) f)) (λ q. view-tick w g c h ∙ at-length (λ (k : ℕ). to.tick k) q)
 
   item-event : (y : ℕ) → Fits w (at (event y) l) → Holds c w (at (event y) l)
   item-event y f =
       ours w c (event y) l f (to.event (length (first l)) y) (shared (said c (answer (w .board) (event y) l))) refl refl
-      (shared-refused (said c (answer (w .board) (event y) l))) (hear-event w c h y l)
+      (shared-refused (said c (answer (w .board) (event y) l))) (observe-event w c h y l)
       (λ q. view-event w g c h y ∙ at-length (λ (k : ℕ). to.event k y) q)
 
   item-user : (u : ℕ) → Fits w (at (changeUser u) l) → Holds c w (at (changeUser u) l)
   item-user u f =
       ours w c (changeUser u) l f (to.changeUser u) (shared (said c (answer (w .board) (changeUser u) l))) refl refl
-      (shared-refused (said c (answer (w .board) (changeUser u) l))) (hear-user w c h u l)
+      (shared-refused (said c (answer (w .board) (changeUser u) l))) (observe-user w c h u l)
       (λ q. view-user w g c h u)
 
   item-level : Fits w (at interruptLevel l) → Holds c w (at interruptLevel l)

@@ -9,7 +9,7 @@ pub mod Shapes
 pub mod Mains
 pub mod Views
 pub mod Others
-pub mod Hearing
+pub mod Observing
 pub mod Items
 pub mod Isolation
 pub mod Shown

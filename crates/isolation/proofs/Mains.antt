@@ -6,11 +6,11 @@ use native.Mathlib.Omega.{arith}
 use lib.ListN.{length}
 use borrow.Author.Tests.{eq-eqb, ne-eqb}
 use Rattle.status.specs.Bits.{bitAt, bitOf}
-use Rattle.life.specs.declared.Channel.{Channel}
-use Rattle.life.specs.State.{opened}
+use Rattle.channel_core.specs.declared.Channel.{Channel}
+use Rattle.channel_core.specs.State.{opened}
 use Rattle.channel.specs.Calls.{mainBit, mainTaken}
 use Rattle.board_state.specs.declared.Board.{Board}
-use Rattle.board_state.specs.State.{chan}
+use Rattle.board_state.specs.State.{channelAt}
 use Rattle.board_state.specs.Main.{mainWord, mainStatus, eventBit, statusRead, takenAt}
 use Rattle.isolation.proofs.Parts.{Number}
 use Rattle.isolation.proofs.Cases.{four-stored}
@@ -57,10 +57,10 @@ module _ (u : ℕ) where
   word-bit f e (suc (suc (suc (suc (suc c))))) h = absurd (omega arith)
 
 module _ (b : Board) (polling : Bool) (c : ℕ) (h : Number c) where
-  pub status-bit : bitAt (mainStatus b polling) (3 + c) ≡ mainBit (chan b c) polling
+  pub status-bit : bitAt (mainStatus b polling) (3 + c) ≡ mainBit (channelAt b c) polling
   unfolding mainStatus
-  status-bit = word-bit (b .user) (λ (j : ℕ). mainBit (chan b j) polling) (eventBit (b .main) polling) c h
+  status-bit = word-bit (b .user) (λ (j : ℕ). mainBit (channelAt b j) polling) (eventBit (b .main) polling) c h
 
-  pub status-taken : length (b .channels) ≡ 4 → chan (statusRead b polling) c ≡ mainTaken (chan b c) polling
+  pub status-taken : length (b .channels) ≡ 4 → channelAt (statusRead b polling) c ≡ mainTaken (channelAt b c) polling
   unfolding statusRead takenAt
   status-taken e = four-stored (λ (j : ℕ) (x : Channel). mainTaken x polling) (b .channels) opened c e h

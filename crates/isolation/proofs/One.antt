@@ -11,35 +11,34 @@ use Rattle.register_map.specs.Verdicts.{readRefusal, writeRefusal}
 use Rattle.sequencer.specs.declared.Transmission.{Transmission}
 use Rattle.sequencer.specs.declared.Transmission.the-variants as transmission
 use Rattle.registers.specs.declared.Registers.{Registers}
-use Rattle.life.specs.declared.Channel.{Channel}
-use Rattle.life.specs.Answers.{Answer}
-use Rattle.life.specs.Answers as ans
-use Rattle.life.specs.Life.{sendFrame, playedOf, replyAnswerAs, replyAs, replyWordsAs}
-use Rattle.life.specs.Life as life
+use Rattle.channel_core.specs.declared.Channel.{Channel}
+use Rattle.channel_core.specs.Answers.{Answer, isRefusal}
+use Rattle.channel_core.specs.Answers as ans
+use Rattle.channel_core.specs.Behaviour.{sendFrame, playedOf, replyAnswerAs, replyAs, replyWordsAs}
+use Rattle.channel_core.specs.Behaviour as core
 use Rattle.channel.specs.Calls.{unless, registerRefusal, setpointRefusal}
 use Rattle.channel.specs.Calls as chn
-use Rattle.channel.specs.Alone.{Alone, ChannelCall, withChannel, withSetpoints, withReadbacks, refusalOf, effect, answer, move, says, moves, tells, then, lengthRefusal, framingRefusal, mainHeard}
-use Rattle.channel.specs.Alone as to
+use Rattle.channel.specs.OneChannel.{OneChannel, ChannelCall, withChannel, withSetpoints, withReadbacks, refusalOf, effect, answer, transition, response, transitions, responses, then, lengthRefusal, framingRefusal, mainAnswer}
+use Rattle.channel.specs.OneChannel as to
 use Rattle.board.specs.Calls.{sizeMismatch}
-use Rattle.isolation.specs.Calls.{refuses}
 use Rattle.isolation.proofs.Cases.{clash, cond-case}
 use Rattle.isolation.proofs.Refused.{reply-still, reply-words}
 
 -- ---- Refused, it stands still
 
-frame-none : (r : Registers) (t : Transmission) → refuses (sendFrame r t) ≡ false
+frame-none : (r : Registers) (t : Transmission) → isRefusal (sendFrame r t) ≡ false
 frame-none r transmission.Nothing = refl
 frame-none r (transmission.Word word k) = refl
 
-main-none : (c : Channel) (o : ℕ) → refuses (mainHeard c o) ≡ false
+main-none : (c : Channel) (o : ℕ) → isRefusal (mainAnswer c o) ≡ false
 main-none c o =
-    cond-case (λ (a : Answer). refuses a ≡ false) (eqb o 0x28) (λ t. refl)
-    (λ t. cond-case (λ (a : Answer). refuses a ≡ false) (eqb o 0x2a) (λ q. refl) (λ q. refl))
+    cond-case (λ (a : Answer). isRefusal a ≡ false) (eqb o 0x28) (λ t. refl)
+    (λ t. cond-case (λ (a : Answer). isRefusal a ≡ false) (eqb o 0x2a) (λ q. refl) (λ q. refl))
 
-module _ (o : Alone) where
+module _ (o : OneChannel) where
   -- no refusal but in `refusalOf`; a reply's stands in the answer too, and there it changes nothing
-  effect-still : (k : ChannelCall) → refuses (answer o k) ≡ true → effect o k ≡ o
-  unfolding answer effect life.tickAnswer
+  effect-still : (k : ChannelCall) → isRefusal (answer o k) ≡ true → effect o k ≡ o
+  unfolding answer effect core.tickAnswer
   effect-still (to.writeRegister lent x v) h = clash h
   effect-still (to.readRegister x) h = clash h
   effect-still (to.writeSetpoint lent u f i x) h = clash h
@@ -56,22 +55,22 @@ module _ (o : Alone) where
   effect-still (to.writeMain lent x v) h = refl
   effect-still (to.readMain x) h = clash (sym (main-none (o .channel) x) ∙ h)
 
-  pub still : (k : ChannelCall) → refuses (says o k) ≡ true → move o k ≡ o
-  unfolding says move
+  pub still : (k : ChannelCall) → isRefusal (response o k) ≡ true → transition o k ≡ o
+  unfolding response transition
   still k h = go (eqb (refusalOf o k) 0) refl
     where
-      go : (t : Bool) → eqb (refusalOf o k) 0 ≡ t → move o k ≡ o
+      go : (t : Bool) → eqb (refusalOf o k) 0 ≡ t → transition o k ≡ o
       go true e = rw e (effect-still k (rw e at h))
       go false e = rw e
 
   -- ---- What a call does
 
   module _ (k : ℕ) (fit : eqb k (o .m * 8) ≡ true) where
-    pub move-write : (x v : ℕ)
-        → move o (to.writeRegister k x v)
+    pub transition-write : (x v : ℕ)
+        → transition o (to.writeRegister k x v)
         ≡ withReadbacks o (chn.writtenOf (o .channel) x v) (chn.writtenWords (o .channel) (o .readbacks) (o .m) x v)
-    unfolding move refusalOf effect chn.writtenOf chn.writtenWords
-    move-write x v = rw fit (go (eqb (registerRefusal x v) 0))
+    unfolding transition refusalOf effect chn.writtenOf chn.writtenWords
+    transition-write x v = rw fit (go (eqb (registerRefusal x v) 0))
       where
         go : (t : Bool)
             → cond t (withReadbacks o (chn.registerEffect (o .channel) x v) (chn.registerWords (o .channel) (o .readbacks) (o .m) x v)) o
@@ -80,30 +79,30 @@ module _ (o : Alone) where
         go true = refl
         go false = refl
 
-    pub move-reply : (f : ℕ)
-        → move o (to.reply k f)
-        ≡ withReadbacks o (life.replyOf (o .channel) (o .m) f) (life.replyWords (o .channel) (o .readbacks) (o .m) (o .user) f)
-    unfolding move refusalOf effect life.replyOf life.replyWords
-    move-reply f = rw fit (go (read f))
+    pub transition-reply : (f : ℕ)
+        → transition o (to.reply k f)
+        ≡ withReadbacks o (core.replyOf (o .channel) (o .m) f) (core.replyWords (o .channel) (o .readbacks) (o .m) (o .user) f)
+    unfolding transition refusalOf effect core.replyOf core.replyWords
+    transition-reply f = rw fit (go (read f))
       where
         go : (r : Reading)
             → cond (eqb (framingRefusal r) 0)
             (withReadbacks o (replyAs r (o .channel) (o .m)) (replyWordsAs r (o .channel) (o .readbacks) (o .m) (o .user))) o
             ≡ withReadbacks o (replyAs r (o .channel) (o .m)) (replyWordsAs r (o .channel) (o .readbacks) (o .m) (o .user))
-        go (frame.refused k) = cond-case (λ (a : Alone). a ≡ o) (eqb k 0) (λ t. refl) (λ t. refl)
+        go (frame.refused k) = cond-case (λ (a : OneChannel). a ≡ o) (eqb k 0) (λ t. refl) (λ t. refl)
         go (frame.fields id word aux crc) = refl
 
-    pub move-event : (x : ℕ)
-        → move o (to.event k x)
-        ≡ withReadbacks o (life.eventOf (o .channel) (o .user) x) (life.eventWords (o .channel) (o .readbacks) (o .m) x)
-    unfolding move refusalOf effect
-    move-event x = rw fit
+    pub transition-event : (x : ℕ)
+        → transition o (to.event k x)
+        ≡ withReadbacks o (core.eventOf (o .channel) (o .user) x) (core.eventWords (o .channel) (o .readbacks) (o .m) x)
+    unfolding transition refusalOf effect
+    transition-event x = rw fit
 
   module _ (k : ℕ) (fit : eqb k (o .n * 64) ≡ true) where
-    pub move-setpoint : (u f i x : ℕ)
-        → move o (to.writeSetpoint k u f i x) ≡ withSetpoints o (chn.setpointWords (o .channel) (o .setpoints) (o .n) u f i x)
-    unfolding move refusalOf effect chn.setpointWords
-    move-setpoint u f i x = rw fit (go (eqb (setpointRefusal (o .channel) (o .n) u f i) 0) refl)
+    pub transition-setpoint : (u f i x : ℕ)
+        → transition o (to.writeSetpoint k u f i x) ≡ withSetpoints o (chn.setpointWords (o .channel) (o .setpoints) (o .n) u f i x)
+    unfolding transition refusalOf effect chn.setpointWords
+    transition-setpoint u f i x = rw fit (go (eqb (setpointRefusal (o .channel) (o .n) u f i) 0) refl)
       where
         go : (t : Bool) → eqb (setpointRefusal (o .channel) (o .n) u f i) 0 ≡ t
             → cond t (withSetpoints o (chn.setpointWords (o .channel) (o .setpoints) (o .n) u f i x)) o
@@ -111,13 +110,13 @@ module _ (o : Alone) where
         go true e = refl
         go false e = rw e
 
-    pub move-tick : move o (to.tick k) ≡ withChannel o (life.tickOf (o .channel) (o .setpoints) (o .n) (o .user))
-    unfolding move refusalOf effect
-    move-tick = rw fit
+    pub transition-tick : transition o (to.tick k) ≡ withChannel o (core.tickOf (o .channel) (o .setpoints) (o .n) (o .user))
+    unfolding transition refusalOf effect
+    transition-tick = rw fit
 
-  pub move-read : (x : ℕ) → move o (to.readRegister x) ≡ withChannel o (chn.readOf (o .channel) x)
-  unfolding move refusalOf effect chn.readOf
-  move-read x = go (eqb (readRefusal (channelAccess x)) 0)
+  pub transition-read : (x : ℕ) → transition o (to.readRegister x) ≡ withChannel o (chn.readOf (o .channel) x)
+  unfolding transition refusalOf effect chn.readOf
+  transition-read x = go (eqb (readRefusal (channelAccess x)) 0)
     where
       go : (t : Bool)
           → cond t (withChannel o (chn.readEffect (o .channel) x)) o
@@ -125,16 +124,16 @@ module _ (o : Alone) where
       go true = refl
       go false = refl
 
-  pub move-main : (k x v : ℕ) → move o (to.writeMain k x v) ≡ o
-  unfolding move effect
-  move-main k x v =
-      cond-case (λ (a : Alone). a ≡ o) (eqb (refusalOf o (to.writeMain k x v)) 0) (λ t. refl) (λ t. refl)
+  pub transition-main : (k x v : ℕ) → transition o (to.writeMain k x v) ≡ o
+  unfolding transition effect
+  transition-main k x v =
+      cond-case (λ (a : OneChannel). a ≡ o) (eqb (refusalOf o (to.writeMain k x v)) 0) (λ t. refl) (λ t. refl)
 
-  pub move-retired : (k j : ℕ) → (move o (to.retired k j) ≡ o) × (move o (to.retiredLength k j) ≡ o)
-  unfolding move effect
-  move-retired k j = (
-    cond-case (λ (a : Alone). a ≡ o) (eqb (refusalOf o (to.retired k j)) 0) (λ t. refl) (λ t. refl),
-    cond-case (λ (a : Alone). a ≡ o) (eqb (refusalOf o (to.retiredLength k j)) 0) (λ t. refl) (λ t. refl),
+  pub transition-retired : (k j : ℕ) → (transition o (to.retired k j) ≡ o) × (transition o (to.retiredLength k j) ≡ o)
+  unfolding transition effect
+  transition-retired k j = (
+    cond-case (λ (a : OneChannel). a ≡ o) (eqb (refusalOf o (to.retired k j)) 0) (λ t. refl) (λ t. refl),
+    cond-case (λ (a : OneChannel). a ≡ o) (eqb (refusalOf o (to.retiredLength k j)) 0) (λ t. refl) (λ t. refl),
   )
 
   -- ---- What it answers
@@ -148,20 +147,20 @@ module _ (o : Alone) where
       go true = refl
       go false = refl
 
-  pub says-write : (k x v : ℕ) → says o (to.writeRegister k x v) ≡ cond (eqb k (o .m * 8)) (chn.writtenAnswer x v) sizeMismatch
-  unfolding says refusalOf answer chn.writtenAnswer
-  says-write k x v = fit-first k (o .m * 8) (registerRefusal x v) ans.done
+  pub response-write : (k x v : ℕ) → response o (to.writeRegister k x v) ≡ cond (eqb k (o .m * 8)) (chn.writtenAnswer x v) sizeMismatch
+  unfolding response refusalOf answer chn.writtenAnswer
+  response-write k x v = fit-first k (o .m * 8) (registerRefusal x v) ans.done
 
-  pub says-setpoint : (k u f i x : ℕ)
-      → says o (to.writeSetpoint k u f i x)
+  pub response-setpoint : (k u f i x : ℕ)
+      → response o (to.writeSetpoint k u f i x)
       ≡ cond (eqb k (o .n * 64)) (chn.setpointAnswer (o .channel) (o .n) u f i) sizeMismatch
-  unfolding says refusalOf answer chn.setpointAnswer
-  says-setpoint k u f i x = fit-first k (o .n * 64) (setpointRefusal (o .channel) (o .n) u f i) ans.done
+  unfolding response refusalOf answer chn.setpointAnswer
+  response-setpoint k u f i x = fit-first k (o .n * 64) (setpointRefusal (o .channel) (o .n) u f i) ans.done
 
-  pub says-reply : (k f : ℕ)
-      → says o (to.reply k f) ≡ cond (eqb k (o .m * 8)) (life.replyAnswer (o .channel) (o .m) f) sizeMismatch
-  unfolding says refusalOf answer life.replyAnswer
-  says-reply k f =
+  pub response-reply : (k f : ℕ)
+      → response o (to.reply k f) ≡ cond (eqb k (o .m * 8)) (core.replyAnswer (o .channel) (o .m) f) sizeMismatch
+  unfolding response refusalOf answer core.replyAnswer
+  response-reply k f =
       fit-first k (o .m * 8) (framingRefusal (read f)) (replyAnswerAs (read f) (o .channel) (o .m))
       ∙ ap (λ (a : Answer). cond (eqb k (o .m * 8)) a sizeMismatch) (go (read f))
     where
@@ -169,38 +168,38 @@ module _ (o : Alone) where
       go (frame.refused k) = cond-case (λ (a : Answer). a ≡ ans.refused k) (eqb k 0) (λ t. refl) (λ t. refl)
       go (frame.fields id word aux crc) = refl
 
-  pub says-main : (k x v : ℕ)
-      → says o (to.writeMain k x v) ≡ cond (eqb k (o .m * 8)) (unless (writeRefusal (mainAccess x)) ans.done) sizeMismatch
-  unfolding says refusalOf answer
-  says-main k x v = fit-first k (o .m * 8) (writeRefusal (mainAccess x)) ans.done
+  pub response-main : (k x v : ℕ)
+      → response o (to.writeMain k x v) ≡ cond (eqb k (o .m * 8)) (unless (writeRefusal (mainAccess x)) ans.done) sizeMismatch
+  unfolding response refusalOf answer
+  response-main k x v = fit-first k (o .m * 8) (writeRefusal (mainAccess x)) ans.done
 
-  pub says-event : (k x : ℕ) → says o (to.event k x) ≡ cond (eqb k (o .m * 8)) ans.done sizeMismatch
-  unfolding says refusalOf answer
-  says-event k x = go (eqb k (o .m * 8))
+  pub response-event : (k x : ℕ) → response o (to.event k x) ≡ cond (eqb k (o .m * 8)) ans.done sizeMismatch
+  unfolding response refusalOf answer
+  response-event k x = go (eqb k (o .m * 8))
     where
       go : (t : Bool) → unless (cond t 0 1) ans.done ≡ cond t ans.done sizeMismatch
       go true = refl
       go false = refl
 
-  pub says-tick : (k : ℕ)
-      → says o (to.tick k)
-      ≡ cond (eqb k (o .n * 64)) (life.tickAnswer (o .channel) (o .setpoints) (o .n) (o .user)) sizeMismatch
-  unfolding says refusalOf answer
-  says-tick k = go (eqb k (o .n * 64))
+  pub response-tick : (k : ℕ)
+      → response o (to.tick k)
+      ≡ cond (eqb k (o .n * 64)) (core.tickAnswer (o .channel) (o .setpoints) (o .n) (o .user)) sizeMismatch
+  unfolding response refusalOf answer
+  response-tick k = go (eqb k (o .n * 64))
     where
       go : (t : Bool)
-          → unless (cond t 0 1) (life.tickAnswer (o .channel) (o .setpoints) (o .n) (o .user))
-          ≡ cond t (life.tickAnswer (o .channel) (o .setpoints) (o .n) (o .user)) sizeMismatch
+          → unless (cond t 0 1) (core.tickAnswer (o .channel) (o .setpoints) (o .n) (o .user))
+          ≡ cond t (core.tickAnswer (o .channel) (o .setpoints) (o .n) (o .user)) sizeMismatch
       go true = refl
       go false = refl
 
 -- ---- The depths stay
 
-pub record Depths (o p : Alone) : Type 0 where
+pub record Depths (o p : OneChannel) : Type 0 where
   pub n : p .n ≡ o .n
   pub m : p .m ≡ o .m
 
-module _ (o : Alone) where
+module _ (o : OneChannel) where
   effect-depths : (k : ChannelCall) → Depths o (effect o k)
   unfolding effect
   effect-depths (to.writeRegister lent x v) = record { n = refl; m = refl }
@@ -218,24 +217,24 @@ module _ (o : Alone) where
   effect-depths (to.writeMain lent x v) = record { n = refl; m = refl }
   effect-depths (to.readMain x) = record { n = refl; m = refl }
 
-  move-depths : (k : ChannelCall) → Depths o (move o k)
-  unfolding move
-  move-depths k =
+  transition-depths : (k : ChannelCall) → Depths o (transition o k)
+  unfolding transition
+  transition-depths k =
       cond-case (Depths o) (eqb (refusalOf o k) 0) (λ t. effect-depths k) (λ t. record { n = refl; m = refl })
 
-pub depths : (o : Alone) (ks : List ChannelCall) → Depths o (moves o ks)
+pub depths : (o : OneChannel) (ks : List ChannelCall) → Depths o (transitions o ks)
 depths o [] = record { n = refl; m = refl }
 depths o (k ∷ ks) =
-    let s : Depths o (move o k) = move-depths o k in
-    let r : Depths (move o k) (moves (move o k) ks) = depths (move o k) ks in
+    let s : Depths o (transition o k) = transition-depths o k in
+    let r : Depths (transition o k) (transitions (transition o k) ks) = depths (transition o k) ks in
     record { n = r .n ∙ s .n; m = r .m ∙ s .m }
 
 -- ---- Along two lists
 
-pub moves-append : (o : Alone) (ks js : List ChannelCall) → moves o (ks ++ js) ≡ moves (moves o ks) js
-moves-append o [] js = refl
-moves-append o (k ∷ ks) js = moves-append (move o k) ks js
+pub transitions-append : (o : OneChannel) (ks js : List ChannelCall) → transitions o (ks ++ js) ≡ transitions (transitions o ks) js
+transitions-append o [] js = refl
+transitions-append o (k ∷ ks) js = transitions-append (transition o k) ks js
 
-pub tells-append : (o : Alone) (ks js : List ChannelCall) → tells o (ks ++ js) ≡ tells o ks ++ tells (moves o ks) js
-tells-append o [] js = refl
-tells-append o (k ∷ ks) js = ap (λ (r : List Answer). says o k ∷ r) (tells-append (move o k) ks js)
+pub responses-append : (o : OneChannel) (ks js : List ChannelCall) → responses o (ks ++ js) ≡ responses o ks ++ responses (transitions o ks) js
+responses-append o [] js = refl
+responses-append o (k ∷ ks) js = ap (λ (r : List Answer). response o k ∷ r) (responses-append (transition o k) ks js)

@@ -9,48 +9,49 @@ use lib.ListN.{length}
 use lib.Dec.{eqb}
 use borrow.Author.Tests.{eqb-true, eq-eqb, ne-eqb}
 use Rattle.register_map.specs.Addresses.{Named, named, main, channel, nothing}
-use Rattle.life.specs.Life as life
+use Rattle.channel_core.specs.Behaviour as core
 use Rattle.channel.specs.Calls as chn
-use Rattle.channel.specs.Alone.{withChannel, withSetpoints, withReadbacks}
-use Rattle.channel.specs.Alone as to
+use Rattle.channel.specs.OneChannel.{withChannel, withSetpoints, withReadbacks}
+use Rattle.channel.specs.OneChannel as to
 use Rattle.board_state.specs.declared.Board.{Board}
-use Rattle.board_state.specs.State.{chan}
+use Rattle.board_state.specs.State.{channelAt}
 use Rattle.board.specs.Parts.{own}
 use Rattle.board.specs.Calls.{noChannel, readbacksFit, writeBoardAt, readBoardAt}
-use Rattle.board.specs.Calls as bench
-use Rattle.isolation.specs.Calls.{Call, writeRegister, readRegister, writeSetpoint, arm, disarm, reply, retired, retiredLength, tick, event, changeUser, interruptLevel, first, second, World, withBoard, after, wordsAfter, refused, given, step}
+use Rattle.board.specs.Calls as calls
+use Rattle.board.specs.Worlds.{World}
+use Rattle.isolation.specs.Calls.{Call, writeRegister, readRegister, writeSetpoint, arm, disarm, reply, retired, retiredLength, tick, event, changeUser, interruptLevel, first, second, withBoard, after, wordsAfter, refused, given, step}
 use Rattle.isolation.specs.Calls as wld
 use Rattle.isolation.specs.Feeding.{only, namesAt, names, feedWrite, feedRead, feed, view}
 use Rattle.isolation.specs.Isolation.{UnfedUntouched, OthersUntouched}
 use Rattle.isolation.proofs.Parts.{Number}
-use Rattle.isolation.proofs.Cases.{clash, cond-case, put-other, range-in, named-number}
+use Rattle.isolation.proofs.Cases.{clash, cond-case, withChannelAt-other, range-in, named-number}
 use Rattle.isolation.proofs.Words.{over-theirs, setpoints-over, replies-over, writes-over, written-length, setpoint-length, reply-length}
 use Rattle.isolation.proofs.Worlds.{either, step-refused, step-given, plain, parted-sets, parted-reads}
 
 module _ (w : World) (c : ℕ) (h : Number c) (d : ℕ) (ne : c ≡ d → ⊥) where
   pub other-write : (a o v : ℕ) → named a ≡ channel d o → view c (plain w (writeRegister a v)) ≡ view c w
-  unfolding after wordsAfter bench.writeBoard
+  unfolding after wordsAfter calls.writeBoard
   other-write a o v e =
       ap (λ (n : Named). view c (wrote (cond (readbacksFit (w .board) (length (w .readbacks))) (writeBoardAt n (w .board) v) (w .board)))) e
       ∙ cond-case (λ (b : Board). view c (wrote b) ≡ view c w) (readbacksFit (w .board) (length (w .readbacks)))
-      (λ t. ap₂ (withReadbacks (view c w)) (put-other (w .board) d c _ (named-number a d o e) h ne) words)
-      (λ t. ap (withReadbacks (view c w) (chan (w .board) c)) words)
+      (λ t. ap₂ (withReadbacks (view c w)) (withChannelAt-other (w .board) d c _ (named-number a d o e) h ne) words)
+      (λ t. ap (withReadbacks (view c w) (channelAt (w .board) c)) words)
     where
       wrote : Board → World
-      wrote b = wld.withReadbacks w b (bench.writeWords (w .board) (w .readbacks) a v)
+      wrote b = wld.withReadbacks w b (calls.writeWords (w .board) (w .readbacks) a v)
 
-      words : own (bench.writeWords (w .board) (w .readbacks) a v) (w .board .m * 2) c ≡ own (w .readbacks) (w .board .m * 2) c
+      words : own (calls.writeWords (w .board) (w .readbacks) a v) (w .board .m * 2) c ≡ own (w .readbacks) (w .board .m * 2) c
       words =
           ap (λ (r : List ℕ). own r (w .board .m * 2) c) (writes-over (w .board) (w .readbacks) d a o v e (named-number a d o e))
           ∙ over-theirs (w .readbacks) (w .board .m * 8) (w .board .m * 2) d
-          (λ (p : List ℕ). chn.writtenWords (chan (w .board) d) p (w .board .m) o v) (parted-reads (w .board))
-          (λ p. written-length (chan (w .board) d) p (w .board .m) o v) c h ne
+          (λ (p : List ℕ). chn.writtenWords (channelAt (w .board) d) p (w .board .m) o v) (parted-reads (w .board))
+          (λ p. written-length (channelAt (w .board) d) p (w .board .m) o v) c h ne
 
   pub other-read : (a o : ℕ) → named a ≡ channel d o → view c (plain w (readRegister a)) ≡ view c w
-  unfolding after bench.readBoard
+  unfolding after calls.readBoard
   other-read a o e =
       ap (λ (n : Named). view c (withBoard w (readBoardAt n (w .board)))) e
-      ∙ ap (withChannel (view c w)) (put-other (w .board) d c _ (named-number a d o e) h ne)
+      ∙ ap (withChannel (view c w)) (withChannelAt-other (w .board) d c _ (named-number a d o e) h ne)
 
   pub other-setpoint : (u f i x : ℕ) → view c (plain w (writeSetpoint d u f i x)) ≡ view c w
   unfolding after wordsAfter
@@ -58,43 +59,43 @@ module _ (w : World) (c : ℕ) (h : Number c) (d : ℕ) (ne : c ≡ d → ⊥) w
       ap (withSetpoints (view c w))
       (ap (λ (r : List ℕ). own r (w .board .n * 16) c) (setpoints-over (w .board) (w .setpoints) d u f i x)
       ∙ over-theirs (w .setpoints) (w .board .n * 64) (w .board .n * 16) d
-      (λ (p : List ℕ). chn.setpointWords (chan (w .board) d) p (w .board .n) u f i x) (parted-sets (w .board))
-      (λ p. setpoint-length (chan (w .board) d) p (w .board .n) u f i x) c h ne)
+      (λ (p : List ℕ). chn.setpointWords (channelAt (w .board) d) p (w .board .n) u f i x) (parted-sets (w .board))
+      (λ p. setpoint-length (channelAt (w .board) d) p (w .board .n) u f i x) c h ne)
 
   pub other-arm : view c (plain w (arm d)) ≡ view c w
-  unfolding after bench.armBoard
+  unfolding after calls.armBoard
   other-arm =
       cond-case (λ (b : Board). view c (withBoard w b) ≡ view c w) (noChannel d) (λ t. refl)
-      (λ t. ap (withChannel (view c w)) (put-other (w .board) d c _ (range-in d t) h ne))
+      (λ t. ap (withChannel (view c w)) (withChannelAt-other (w .board) d c _ (range-in d t) h ne))
 
   pub other-disarm : view c (plain w (disarm d)) ≡ view c w
-  unfolding after bench.disarmBoard
+  unfolding after calls.disarmBoard
   other-disarm =
       cond-case (λ (b : Board). view c (withBoard w b) ≡ view c w) (noChannel d) (λ t. refl)
-      (λ t. ap (withChannel (view c w)) (put-other (w .board) d c _ (range-in d t) h ne))
+      (λ t. ap (withChannel (view c w)) (withChannelAt-other (w .board) d c _ (range-in d t) h ne))
 
   pub other-reply : (f : ℕ) → view c (plain w (reply d f)) ≡ view c w
-  unfolding after wordsAfter bench.replyBoard
+  unfolding after wordsAfter calls.replyBoard
   other-reply f =
       cond-case Stays (readbacksFit (w .board) (length (w .readbacks)))
-      (λ t. cond-case Stays (noChannel d) (λ q. ap (withReadbacks (view c w) (chan (w .board) c)) words)
-      (λ q. ap₂ (withReadbacks (view c w)) (put-other (w .board) d c _ (range-in d q) h ne) words))
-      (λ t. ap (withReadbacks (view c w) (chan (w .board) c)) words)
+      (λ t. cond-case Stays (noChannel d) (λ q. ap (withReadbacks (view c w) (channelAt (w .board) c)) words)
+      (λ q. ap₂ (withReadbacks (view c w)) (withChannelAt-other (w .board) d c _ (range-in d q) h ne) words))
+      (λ t. ap (withReadbacks (view c w) (channelAt (w .board) c)) words)
     where
       Stays : Board → Type 0
-      Stays b = view c (wld.withReadbacks w b (bench.replyWords (w .board) (w .readbacks) d f)) ≡ view c w
+      Stays b = view c (wld.withReadbacks w b (calls.replyWords (w .board) (w .readbacks) d f)) ≡ view c w
 
-      words : own (bench.replyWords (w .board) (w .readbacks) d f) (w .board .m * 2) c ≡ own (w .readbacks) (w .board .m * 2) c
+      words : own (calls.replyWords (w .board) (w .readbacks) d f) (w .board .m * 2) c ≡ own (w .readbacks) (w .board .m * 2) c
       words =
           ap (λ (r : List ℕ). own r (w .board .m * 2) c) (replies-over (w .board) (w .readbacks) d f)
           ∙ over-theirs (w .readbacks) (w .board .m * 8) (w .board .m * 2) d
-          (λ (p : List ℕ). life.replyWords (chan (w .board) d) p (w .board .m) (w .board .user) f) (parted-reads (w .board))
-          (λ p. reply-length (chan (w .board) d) p (w .board .m) (w .board .user) f) c h ne
+          (λ (p : List ℕ). core.replyWords (channelAt (w .board) d) p (w .board .m) (w .board .user) f) (parted-reads (w .board))
+          (λ p. reply-length (channelAt (w .board) d) p (w .board .m) (w .board .user) f) c h ne
 
 -- a register call that names nothing
 module _ (w : World) (c : ℕ) where
   pub nothing-write : (a v : ℕ) → named a ≡ nothing → view c (plain w (writeRegister a v)) ≡ view c w
-  unfolding after wordsAfter bench.writeBoard bench.writeWords
+  unfolding after wordsAfter calls.writeBoard calls.writeWords
   nothing-write a v e = rw e (go (readbacksFit (w .board) (length (w .readbacks))))
     where
       go : (t : Bool)
@@ -103,7 +104,7 @@ module _ (w : World) (c : ℕ) where
       go false = refl
 
   pub nothing-read : (a : ℕ) → named a ≡ nothing → view c (plain w (readRegister a)) ≡ view c w
-  unfolding after bench.readBoard
+  unfolding after calls.readBoard
   nothing-read a e = rw e
 
 -- ---- A call that names another channel feeds this one nothing

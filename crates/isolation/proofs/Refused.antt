@@ -11,175 +11,176 @@ use Rattle.readback.specs.declared.Disposition.the-variants as disposition
 use Rattle.register_map.specs.Addresses.{Named, named, main, channel, nothing}
 use Rattle.register_map.specs.AccessRule.{channelAccess, mainAccess}
 use Rattle.register_map.specs.Verdicts.{readRefusal, writeRefusal}
-use Rattle.life.specs.declared.Channel.{Channel}
-use Rattle.life.specs.Answers as ans
-use Rattle.life.specs.Life.{fateOf, fateAnswer, replyAnswerAs, replyAs, replyWordsAs}
-use Rattle.life.specs.Life as life
+use Rattle.channel_core.specs.declared.Channel.{Channel}
+use Rattle.channel_core.specs.Answers as ans
+use Rattle.channel_core.specs.Behaviour.{dispositionNow, receiptAnswer, replyAnswerAs, replyAs, replyWordsAs}
+use Rattle.channel_core.specs.Behaviour as core
 use Rattle.channel.specs.Calls.{registerRefusal, setpointRefusal}
 use Rattle.channel.specs.Calls as chn
-use Rattle.channel.specs.Alone.{userRefusal}
+use Rattle.channel.specs.OneChannel.{userRefusal}
 use Rattle.board_state.specs.declared.Board.{Board}
-use Rattle.board_state.specs.State.{chan, put}
+use Rattle.board_state.specs.State.{channelAt, withChannelAt}
 use Rattle.board_state.specs.Main.{mainValue}
 use Rattle.board.specs.Parts.{own, withOwn}
 use Rattle.board.specs.Calls.{readbacksFit, setpointsFit, noChannel, readbackSize, setpointSize, writeBoardAt, writeAnswerAt, writeWordsAt, readBoardAt, readAnswerAt}
-use Rattle.board.specs.Calls as bench
-use Rattle.isolation.specs.Calls.{Call, writeRegister, readRegister, writeSetpoint, arm, disarm, reply, retired, retiredLength, tick, event, changeUser, interruptLevel, Lent, none, words, buffers, first, answer, after, wordsAfter, left, refuses, refused}
+use Rattle.board.specs.Calls as calls
+use Rattle.channel_core.specs.Answers.{isRefusal}
+use Rattle.isolation.specs.Calls.{Call, writeRegister, readRegister, writeSetpoint, arm, disarm, reply, retired, retiredLength, tick, event, changeUser, interruptLevel, Lent, none, words, buffers, first, answer, after, wordsAfter, left, refused}
 use Rattle.isolation.specs.Isolation.{RefusedChangesNothing}
 use Rattle.isolation.proofs.Parts.{own-same}
-use Rattle.isolation.proofs.Cases.{clash, unless-refused, put-own}
+use Rattle.isolation.proofs.Cases.{clash, unless-refused, withChannelAt-own}
 
 -- ---- One channel
 
-fate-none : (d : Disposition) → refuses (fateAnswer d) ≡ false
-fate-none disposition.Unsolicited = refl
-fate-none disposition.Lost = refl
-fate-none disposition.Kept = refl
+disposition-none : (d : Disposition) → isRefusal (receiptAnswer d) ≡ false
+disposition-none disposition.Unsolicited = refl
+disposition-none disposition.Lost = refl
+disposition-none disposition.Kept = refl
 
 module _ (c : Channel) where
-  written-still : (o v : ℕ) → refuses (chn.writtenAnswer o v) ≡ true → chn.writtenOf c o v ≡ c
+  written-still : (o v : ℕ) → isRefusal (chn.writtenAnswer o v) ≡ true → chn.writtenOf c o v ≡ c
   unfolding chn.writtenAnswer chn.writtenOf
   written-still o v h = rw (unless-refused (registerRefusal o v) ans.done refl h)
 
-  written-words : (s : List ℕ) (m o v : ℕ) → refuses (chn.writtenAnswer o v) ≡ true → chn.writtenWords c s m o v ≡ s
+  written-words : (s : List ℕ) (m o v : ℕ) → isRefusal (chn.writtenAnswer o v) ≡ true → chn.writtenWords c s m o v ≡ s
   unfolding chn.writtenAnswer chn.writtenWords
   written-words s m o v h = rw (unless-refused (registerRefusal o v) ans.done refl h)
 
-  read-still : (o : ℕ) → refuses (chn.readAnswer c o) ≡ true → chn.readOf c o ≡ c
+  read-still : (o : ℕ) → isRefusal (chn.readAnswer c o) ≡ true → chn.readOf c o ≡ c
   unfolding chn.readAnswer chn.readOf
   read-still o h = rw (unless-refused (readRefusal (channelAccess o)) (ans.value (chn.readValue c o)) refl h)
 
-  setpoint-words : (s : List ℕ) (n u b i x : ℕ) → refuses (chn.setpointAnswer c n u b i) ≡ true → chn.setpointWords c s n u b i x ≡ s
+  setpoint-words : (s : List ℕ) (n u b i x : ℕ) → isRefusal (chn.setpointAnswer c n u b i) ≡ true → chn.setpointWords c s n u b i x ≡ s
   unfolding chn.setpointAnswer chn.setpointWords
   setpoint-words s n u b i x h = rw (unless-refused (setpointRefusal c n u b i) ans.done refl h)
 
-  pub reply-still : (m f : ℕ) → refuses (life.replyAnswer c m f) ≡ true → life.replyOf c m f ≡ c
-  unfolding life.replyAnswer life.replyOf
+  pub reply-still : (m f : ℕ) → isRefusal (core.replyAnswer c m f) ≡ true → core.replyOf c m f ≡ c
+  unfolding core.replyAnswer core.replyOf
   reply-still m f h = go (read f) h
     where
-      go : (r : Reading) → refuses (replyAnswerAs r c m) ≡ true → replyAs r c m ≡ c
+      go : (r : Reading) → isRefusal (replyAnswerAs r c m) ≡ true → replyAs r c m ≡ c
       go (frame.refused k) h = refl
-      go (frame.fields id word aux crc) h = clash (sym (fate-none (fateOf c m)) ∙ h)
+      go (frame.fields id word aux crc) h = clash (sym (disposition-none (dispositionNow c m)) ∙ h)
 
-  pub reply-words : (s : List ℕ) (m u f : ℕ) → refuses (life.replyAnswer c m f) ≡ true → life.replyWords c s m u f ≡ s
-  unfolding life.replyAnswer life.replyWords
+  pub reply-words : (s : List ℕ) (m u f : ℕ) → isRefusal (core.replyAnswer c m f) ≡ true → core.replyWords c s m u f ≡ s
+  unfolding core.replyAnswer core.replyWords
   reply-words s m u f h = go (read f) h
     where
-      go : (r : Reading) → refuses (replyAnswerAs r c m) ≡ true → replyWordsAs r c s m u ≡ s
+      go : (r : Reading) → isRefusal (replyAnswerAs r c m) ≡ true → replyWordsAs r c s m u ≡ s
       go (frame.refused k) h = refl
-      go (frame.fields id word aux crc) h = clash (sym (fate-none (fateOf c m)) ∙ h)
+      go (frame.fields id word aux crc) h = clash (sym (disposition-none (dispositionNow c m)) ∙ h)
 
 -- ---- The board
 
 module _ (b : Board) where
-  write-at : (a : Named) (v : ℕ) → refuses (writeAnswerAt a v) ≡ true → writeBoardAt a b v ≡ b
+  write-at : (a : Named) (v : ℕ) → isRefusal (writeAnswerAt a v) ≡ true → writeBoardAt a b v ≡ b
   write-at (main o) v h = rw (unless-refused (writeRefusal (mainAccess o)) ans.done refl h)
-  write-at (channel d o) v h = ap (put b d) (written-still (chan b d) o v h) ∙ put-own b d
+  write-at (channel d o) v h = ap (withChannelAt b d) (written-still (channelAt b d) o v h) ∙ withChannelAt-own b d
   write-at nothing v h = refl
 
-  write-words-at : (a : Named) (s : List ℕ) (v : ℕ) → refuses (writeAnswerAt a v) ≡ true → writeWordsAt a b s v ≡ s
+  write-words-at : (a : Named) (s : List ℕ) (v : ℕ) → isRefusal (writeAnswerAt a v) ≡ true → writeWordsAt a b s v ≡ s
   write-words-at (main o) s v h = refl
   write-words-at (channel d o) s v h =
-      ap (withOwn s (readbackSize b) d) (written-words (chan b d) (own s (readbackSize b) d) (b .m) o v h)
+      ap (withOwn s (readbackSize b) d) (written-words (channelAt b d) (own s (readbackSize b) d) (b .m) o v h)
       ∙ own-same s (readbackSize b) d
   write-words-at nothing s v h = refl
 
-  read-at : (a : Named) → refuses (readAnswerAt a b) ≡ true → readBoardAt a b ≡ b
+  read-at : (a : Named) → isRefusal (readAnswerAt a b) ≡ true → readBoardAt a b ≡ b
   read-at (main o) h = rw (unless-refused (readRefusal (mainAccess o)) (ans.value (mainValue b o)) refl h)
-  read-at (channel d o) h = ap (put b d) (read-still (chan b d) o h) ∙ put-own b d
+  read-at (channel d o) h = ap (withChannelAt b d) (read-still (channelAt b d) o h) ∙ withChannelAt-own b d
   read-at nothing h = refl
 
   -- the board after each call
-  write-board : (k a v : ℕ) → refuses (bench.writeAnswer b k a v) ≡ true → bench.writeBoard b k a v ≡ b
-  unfolding bench.writeAnswer bench.writeBoard
+  write-board : (k a v : ℕ) → isRefusal (calls.writeAnswer b k a v) ≡ true → calls.writeBoard b k a v ≡ b
+  unfolding calls.writeAnswer calls.writeBoard
   write-board k a v h = go (readbacksFit b k) refl
     where
       go : (t : Bool) → readbacksFit b k ≡ t → cond t (writeBoardAt (named a) b v) b ≡ b
       go true e = write-at (named a) v (rw e at h)
       go false e = refl
 
-  write-words : (s : List ℕ) (a v : ℕ) → refuses (bench.writeAnswer b (length s) a v) ≡ true → bench.writeWords b s a v ≡ s
-  unfolding bench.writeAnswer bench.writeWords
+  write-words : (s : List ℕ) (a v : ℕ) → isRefusal (calls.writeAnswer b (length s) a v) ≡ true → calls.writeWords b s a v ≡ s
+  unfolding calls.writeAnswer calls.writeWords
   write-words s a v h = go (readbacksFit b (length s)) refl
     where
       go : (t : Bool) → readbacksFit b (length s) ≡ t → cond t (writeWordsAt (named a) b s v) s ≡ s
       go true e = write-words-at (named a) s v (rw e at h)
       go false e = refl
 
-  read-board : (a : ℕ) → refuses (bench.readAnswer b a) ≡ true → bench.readBoard b a ≡ b
-  unfolding bench.readAnswer bench.readBoard
+  read-board : (a : ℕ) → isRefusal (calls.readAnswer b a) ≡ true → calls.readBoard b a ≡ b
+  unfolding calls.readAnswer calls.readBoard
   read-board a h = read-at (named a) h
 
-  setpoint-all : (s : List ℕ) (d u f i x : ℕ) → refuses (bench.setpointAnswer b (length s) d u f i) ≡ true
-      → bench.setpointWords b s d u f i x ≡ s
-  unfolding bench.setpointAnswer bench.setpointWords
+  setpoint-all : (s : List ℕ) (d u f i x : ℕ) → isRefusal (calls.setpointAnswer b (length s) d u f i) ≡ true
+      → calls.setpointWords b s d u f i x ≡ s
+  unfolding calls.setpointAnswer calls.setpointWords
   setpoint-all s d u f i x h = go (setpointsFit b (length s)) refl (noChannel d) refl
     where
-      go : (t : Bool) → setpointsFit b (length s) ≡ t → (q : Bool) → noChannel d ≡ q → bench.setpointWords b s d u f i x ≡ s
+      go : (t : Bool) → setpointsFit b (length s) ≡ t → (q : Bool) → noChannel d ≡ q → calls.setpointWords b s d u f i x ≡ s
       go true e true r = rw (e, r)
       go true e false r =
           rw (e, r)
           (ap (withOwn s (setpointSize b) d)
-          (setpoint-words (chan b d) (own s (setpointSize b) d) (b .n) u f i x (rw (e, r) at h))
+          (setpoint-words (channelAt b d) (own s (setpointSize b) d) (b .n) u f i x (rw (e, r) at h))
           ∙ own-same s (setpointSize b) d)
       go false e q r = rw e
 
-  arm-board : (d : ℕ) → refuses (bench.armAnswer d) ≡ true → (bench.armBoard b d ≡ b) × (bench.disarmBoard b d ≡ b)
-  unfolding bench.armAnswer bench.armBoard bench.disarmBoard
+  arm-board : (d : ℕ) → isRefusal (calls.armAnswer d) ≡ true → (calls.armBoard b d ≡ b) × (calls.disarmBoard b d ≡ b)
+  unfolding calls.armAnswer calls.armBoard calls.disarmBoard
   arm-board d h = go (noChannel d) refl
     where
-      go : (t : Bool) → noChannel d ≡ t → (bench.armBoard b d ≡ b) × (bench.disarmBoard b d ≡ b)
+      go : (t : Bool) → noChannel d ≡ t → (calls.armBoard b d ≡ b) × (calls.disarmBoard b d ≡ b)
       go true e = (rw e, rw e)
       go false e = clash (rw e at h)
 
-  reply-board : (k d f : ℕ) → refuses (bench.replyAnswer b k d f) ≡ true → bench.replyBoard b k d f ≡ b
-  unfolding bench.replyAnswer bench.replyBoard
+  reply-board : (k d f : ℕ) → isRefusal (calls.replyAnswer b k d f) ≡ true → calls.replyBoard b k d f ≡ b
+  unfolding calls.replyAnswer calls.replyBoard
   reply-board k d f h = go (readbacksFit b k) refl (noChannel d) refl
     where
-      go : (t : Bool) → readbacksFit b k ≡ t → (q : Bool) → noChannel d ≡ q → bench.replyBoard b k d f ≡ b
+      go : (t : Bool) → readbacksFit b k ≡ t → (q : Bool) → noChannel d ≡ q → calls.replyBoard b k d f ≡ b
       go true e true r = rw (e, r)
-      go true e false r = rw (e, r) (ap (put b d) (reply-still (chan b d) (b .m) f (rw (e, r) at h)) ∙ put-own b d)
+      go true e false r = rw (e, r) (ap (withChannelAt b d) (reply-still (channelAt b d) (b .m) f (rw (e, r) at h)) ∙ withChannelAt-own b d)
       go false e q r = rw e
 
-  reply-all : (s : List ℕ) (d f : ℕ) → refuses (bench.replyAnswer b (length s) d f) ≡ true → bench.replyWords b s d f ≡ s
-  unfolding bench.replyAnswer bench.replyWords
+  reply-all : (s : List ℕ) (d f : ℕ) → isRefusal (calls.replyAnswer b (length s) d f) ≡ true → calls.replyWords b s d f ≡ s
+  unfolding calls.replyAnswer calls.replyWords
   reply-all s d f h = go (readbacksFit b (length s)) refl (noChannel d) refl
     where
-      go : (t : Bool) → readbacksFit b (length s) ≡ t → (q : Bool) → noChannel d ≡ q → bench.replyWords b s d f ≡ s
+      go : (t : Bool) → readbacksFit b (length s) ≡ t → (q : Bool) → noChannel d ≡ q → calls.replyWords b s d f ≡ s
       go true e true r = rw (e, r)
       go true e false r =
           rw (e, r)
           (ap (withOwn s (readbackSize b) d)
-          (reply-words (chan b d) (own s (readbackSize b) d) (b .m) (b .user) f (rw (e, r) at h))
+          (reply-words (channelAt b d) (own s (readbackSize b) d) (b .m) (b .user) f (rw (e, r) at h))
           ∙ own-same s (readbackSize b) d)
       go false e q r = rw e
 
-  tick-board : (l : Lent) → refused b tick l ≡ true → bench.tickBoard b (first l) ≡ b
-  unfolding answer bench.tickSaid bench.tickBoard
+  tick-board : (l : Lent) → refused b tick l ≡ true → calls.tickBoard b (first l) ≡ b
+  unfolding answer calls.tickBoardAnswer calls.tickBoard
   tick-board l h = go (setpointsFit b (length (first l))) refl
     where
-      go : (t : Bool) → setpointsFit b (length (first l)) ≡ t → bench.tickBoard b (first l) ≡ b
+      go : (t : Bool) → setpointsFit b (length (first l)) ≡ t → calls.tickBoard b (first l) ≡ b
       go true e = clash (rw e at h)
       go false e = rw e
 
-  event-board : (k x : ℕ) → refuses (bench.eventAnswer b k) ≡ true → bench.eventBoard b k x ≡ b
-  unfolding bench.eventAnswer bench.eventBoard
+  event-board : (k x : ℕ) → isRefusal (calls.eventAnswer b k) ≡ true → calls.eventBoard b k x ≡ b
+  unfolding calls.eventAnswer calls.eventBoard
   event-board k x h = go (readbacksFit b k) refl
     where
-      go : (t : Bool) → readbacksFit b k ≡ t → bench.eventBoard b k x ≡ b
+      go : (t : Bool) → readbacksFit b k ≡ t → calls.eventBoard b k x ≡ b
       go true e = clash (rw e at h)
       go false e = rw e
 
-  event-words : (s : List ℕ) (x : ℕ) → refuses (bench.eventAnswer b (length s)) ≡ true → bench.eventWords b s x ≡ s
-  unfolding bench.eventAnswer bench.eventWords
+  event-words : (s : List ℕ) (x : ℕ) → isRefusal (calls.eventAnswer b (length s)) ≡ true → calls.eventWords b s x ≡ s
+  unfolding calls.eventAnswer calls.eventWords
   event-words s x h = go (readbacksFit b (length s)) refl
     where
-      go : (t : Bool) → readbacksFit b (length s) ≡ t → bench.eventWords b s x ≡ s
+      go : (t : Bool) → readbacksFit b (length s) ≡ t → calls.eventWords b s x ≡ s
       go true e = clash (rw e at h)
       go false e = rw e
 
-  user-board : (u : ℕ) → refuses (bench.userAnswer u) ≡ true → bench.userBoard b u ≡ b
-  unfolding bench.userAnswer bench.userBoard
+  user-board : (u : ℕ) → isRefusal (calls.userAnswer u) ≡ true → calls.userBoard b u ≡ b
+  unfolding calls.userAnswer calls.userBoard
   user-board u h = rw (unless-refused (userRefusal u) ans.done refl h)
 
   -- ---- Every call

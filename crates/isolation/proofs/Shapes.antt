@@ -8,15 +8,16 @@ use lib.Dec.{eqb}
 use Rattle.register_map.specs.Addresses.{Named, named, main, channel, nothing}
 use Rattle.register_map.specs.AccessRule.{mainAccess}
 use Rattle.register_map.specs.Verdicts.{readRefusal, writeRefusal}
-use Rattle.life.specs.Life as life
+use Rattle.channel_core.specs.Behaviour as core
 use Rattle.channel.specs.Calls as chn
-use Rattle.channel.specs.Alone.{userRefusal}
+use Rattle.channel.specs.OneChannel.{userRefusal}
 use Rattle.board_state.specs.declared.Board.{Board}
-use Rattle.board_state.specs.State.{chan}
+use Rattle.board_state.specs.State.{channelAt}
 use Rattle.board_state.specs.Main.{mainWritten, mainRead, statusRead, takenAt}
 use Rattle.board.specs.Calls.{noChannel, setpointsFit, readbacksFit, writeBoardAt, readBoardAt, eventBoards, eventBoardAt, changedAt}
-use Rattle.board.specs.Calls as bench
-use Rattle.isolation.specs.Calls.{Call, writeRegister, readRegister, writeSetpoint, arm, disarm, reply, retired, retiredLength, tick, event, changeUser, interruptLevel, Lent, first, World, after, wordsAfter}
+use Rattle.board.specs.Calls as calls
+use Rattle.board.specs.Worlds.{World}
+use Rattle.isolation.specs.Calls.{Call, writeRegister, readRegister, writeSetpoint, arm, disarm, reply, retired, retiredLength, tick, event, changeUser, interruptLevel, Lent, first, after, wordsAfter}
 use Rattle.isolation.proofs.Cases.{cond-case, named-number}
 use Rattle.isolation.proofs.Words.{over-length, setpoints-over, replies-over, writes-over, written-length, setpoint-length, reply-length}
 use Rattle.isolation.proofs.Worlds.{Good, plain, parted-sets, parted-reads, full-reads}
@@ -54,7 +55,7 @@ module _ (b : Board) where
   read-at nothing = same
 
   shape : (x : Call) (l : Lent) → Shape b (after b x l)
-  unfolding after bench.writeBoard bench.readBoard bench.armBoard bench.disarmBoard bench.replyBoard bench.tickBoard bench.eventBoard eventBoards eventBoardAt bench.userBoard changedAt
+  unfolding after calls.writeBoard calls.readBoard calls.armBoard calls.disarmBoard calls.replyBoard calls.tickBoard calls.eventBoard eventBoards eventBoardAt calls.userBoard changedAt
   shape (writeRegister a v) l =
       cond-case (Shape b) (readbacksFit b (length (first l))) (λ t. write-at (named a) v) (λ t. same)
   shape (readRegister a) l = read-at (named a)
@@ -86,29 +87,29 @@ module _ (b : Board) where
 -- ---- The memories
 
 module _ (b : Board) (s : List ℕ) where
-  write-length : (a v : ℕ) → length (bench.writeWords b s a v) ≡ length s
-  unfolding bench.writeWords
+  write-length : (a v : ℕ) → length (calls.writeWords b s a v) ≡ length s
+  unfolding calls.writeWords
   write-length a v = go (named a) refl
     where
-      go : (n : Named) → named a ≡ n → length (bench.writeWords b s a v) ≡ length s
+      go : (n : Named) → named a ≡ n → length (calls.writeWords b s a v) ≡ length s
       go (main o) e = rw e (cond-case (λ (r : List ℕ). length r ≡ length s) (readbacksFit b (length s)) (λ t. refl) (λ t. refl))
       go (channel d o) e =
           ap length (writes-over b s d a o v e (named-number a d o e))
-          ∙ over-length s (b .m * 8) (b .m * 2) d (λ (p : List ℕ). chn.writtenWords (chan b d) p (b .m) o v) (parted-reads b)
-          (λ p. written-length (chan b d) p (b .m) o v)
+          ∙ over-length s (b .m * 8) (b .m * 2) d (λ (p : List ℕ). chn.writtenWords (channelAt b d) p (b .m) o v) (parted-reads b)
+          (λ p. written-length (channelAt b d) p (b .m) o v)
       go nothing e = rw e (cond-case (λ (r : List ℕ). length r ≡ length s) (readbacksFit b (length s)) (λ t. refl) (λ t. refl))
 
-  setpoints-length : (d u f i x : ℕ) → length (bench.setpointWords b s d u f i x) ≡ length s
+  setpoints-length : (d u f i x : ℕ) → length (calls.setpointWords b s d u f i x) ≡ length s
   setpoints-length d u f i x =
       ap length (setpoints-over b s d u f i x)
-      ∙ over-length s (b .n * 64) (b .n * 16) d (λ (p : List ℕ). chn.setpointWords (chan b d) p (b .n) u f i x) (parted-sets b)
-      (λ p. setpoint-length (chan b d) p (b .n) u f i x)
+      ∙ over-length s (b .n * 64) (b .n * 16) d (λ (p : List ℕ). chn.setpointWords (channelAt b d) p (b .n) u f i x) (parted-sets b)
+      (λ p. setpoint-length (channelAt b d) p (b .n) u f i x)
 
-  replies-length : (d f : ℕ) → length (bench.replyWords b s d f) ≡ length s
+  replies-length : (d f : ℕ) → length (calls.replyWords b s d f) ≡ length s
   replies-length d f =
       ap length (replies-over b s d f)
-      ∙ over-length s (b .m * 8) (b .m * 2) d (λ (p : List ℕ). life.replyWords (chan b d) p (b .m) (b .user) f) (parted-reads b)
-      (λ p. reply-length (chan b d) p (b .m) (b .user) f)
+      ∙ over-length s (b .m * 8) (b .m * 2) d (λ (p : List ℕ). core.replyWords (channelAt b d) p (b .m) (b .user) f) (parted-reads b)
+      (λ p. reply-length (channelAt b d) p (b .m) (b .user) f)
 
 -- ---- So a good world stays good
 
@@ -122,8 +123,8 @@ module _ (w : World) (g : Good w) where
         reads = q ∙ g .reads ∙ ap (λ (m : ℕ). m * 8) (sym (k .m));
       }
 
-  event-kept : (x : ℕ) → length (bench.eventWords (w .board) (w .readbacks) x) ≡ length (w .readbacks)
-  unfolding bench.eventWords eventBoards eventBoardAt
+  event-kept : (x : ℕ) → length (calls.eventWords (w .board) (w .readbacks) x) ≡ length (w .readbacks)
+  unfolding calls.eventWords eventBoards eventBoardAt
   event-kept x = rw (full-reads w g) (good-first w g x 4 (omega arith) .reads ∙ sym (g .reads))
 
   pub good-plain : (x : Call) → Good (plain w x)

@@ -5,27 +5,28 @@ use mathlib.Core.Logic.{inl, inr}
 use mathlib.Core.Bool.{Bool, true, false}
 use lib.ListN.{length}
 use lib.Dec.{eqb}
-use Rattle.life.specs.Answers.{Answer}
+use Rattle.channel_core.specs.Answers.{Answer, isRefusal}
 use Rattle.channel.specs.Calls as chn
-use Rattle.channel.specs.Alone.{Alone, says, moves}
-use Rattle.channel.specs.Alone as to
+use Rattle.channel.specs.OneChannel.{OneChannel, response, transitions}
+use Rattle.channel.specs.OneChannel as to
 use Rattle.board_state.specs.declared.Board.{Board}
-use Rattle.board.specs.Calls.{noChannel, setpointsFit, readAnswer, retiredWords, retiredAnswer, setpointAnswer, tickSaid}
-use Rattle.isolation.specs.Calls.{readRegister, writeSetpoint, tick, Lent, none, words, first, World, answer, refuses, refused, given, last, opening}
+use Rattle.board.specs.Calls.{noChannel, setpointsFit, readAnswer, retiredWords, retiredAnswer, setpointAnswer, tickBoardAnswer}
+use Rattle.board.specs.Worlds.{World}
+use Rattle.isolation.specs.Calls.{readRegister, writeSetpoint, tick, Lent, none, words, first, answer, refused, given, last, opening}
 use Rattle.isolation.specs.Feeding.{fed, view}
-use Rattle.isolation.specs.Isolation.{aloneAt, AsAlone, Shows, IsolationShown, astray, NotVacuous}
+use Rattle.isolation.specs.Isolation.{oneChannelAt, MatchesOneChannel, Shows, IsolationShown, astray, NotVacuous}
 use Rattle.isolation.proofs.Parts.{Number}
 use Rattle.isolation.proofs.Cases.{cond-case, named-at}
 use Rattle.isolation.proofs.One.{Depths, depths}
 use Rattle.isolation.proofs.Worlds.{Good, step-refused, full-sets}
 use Rattle.isolation.proofs.Mains.{status-bit}
-use Rattle.isolation.proofs.Hearing.{hear-read}
+use Rattle.isolation.proofs.Observing.{observe-read}
 use Rattle.isolation.proofs.Isolation.{isolation, good-opening}
 
 module _ (c : ℕ) (h : Number c) (w : World) where
-  register-shown : (o : ℕ) → o < 0x800 → readAnswer (w .board) (0x800 * c + o) ≡ says (view c w) (to.readRegister o)
+  register-shown : (o : ℕ) → o < 0x800 → readAnswer (w .board) (0x800 * c + o) ≡ response (view c w) (to.readRegister o)
   unfolding answer
-  register-shown o l = hear-read w c h (0x800 * c + o) o none (named-at c o h l)
+  register-shown o l = observe-read w c h (0x800 * c + o) o none (named-at c o h l)
 
   view-shown : Shows (w .board .n) (w .board .m) c w (view c w)
   view-shown =
@@ -41,14 +42,14 @@ module _ (c : ℕ) (h : Number c) (w : World) where
         bothBuffers = refl;
       }
 
-  shown : (o : Alone) → view c w ≡ o → Shows (o .n) (o .m) c w o
-  shown o e = subst (λ (p : Alone). Shows (p .n) (p .m) c w p) e view-shown
+  shown : (o : OneChannel) → view c w ≡ o → Shows (o .n) (o .m) c w o
+  shown o e = subst (λ (p : OneChannel). Shows (p .n) (p .m) c w p) e view-shown
 
 pub isolation-shown : IsolationShown
 isolation-shown n m s r e c low high xs a =
-    let o = moves (aloneAt c n m s r) (fed c xs) in
-    let d : Depths (aloneAt c n m s r) o = depths (aloneAt c n m s r) (fed c xs) in
-    let x : AsAlone c (opening n m s r) xs (aloneAt c n m s r) = isolation n m s r e c low high xs a in
+    let o = transitions (oneChannelAt c n m s r) (fed c xs) in
+    let d : Depths (oneChannelAt c n m s r) o = depths (oneChannelAt c n m s r) (fed c xs) in
+    let x : MatchesOneChannel c (opening n m s r) xs (oneChannelAt c n m s r) = isolation n m s r e c low high xs a in
     subst (λ (k : ℕ). Shows k m c (last (opening n m s r) xs) o) (d .n)
     (subst (λ (k : ℕ). Shows (o .n) k c (last (opening n m s r) xs) o) (d .m)
     (shown c (record { low = low; high = high }) (last (opening n m s r) xs) o (x .ends)))
@@ -58,10 +59,10 @@ isolation-shown n m s r e c low high xs a =
 astray-refused : (b : Board) (l : Lent) → refused b (writeSetpoint 5 1 1 0 0) l ≡ true
 unfolding answer setpointAnswer
 astray-refused b l =
-    cond-case (λ (a : Answer). refuses a ≡ true) (setpointsFit b (length (first l))) (λ t. refl) (λ t. refl)
+    cond-case (λ (a : Answer). isRefusal a ≡ true) (setpointsFit b (length (first l))) (λ t. refl) (λ t. refl)
 
 tick-answered : (w : World) → Good w → refused (w .board) tick (words (w .setpoints)) ≡ false
-unfolding answer tickSaid
+unfolding answer tickBoardAnswer
 tick-answered w g = rw (full-sets w g)
 
 pub not-vacuous : NotVacuous

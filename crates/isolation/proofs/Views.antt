@@ -9,23 +9,24 @@ use lib.Dec.{eqb}
 use Rattle.register_map.specs.Addresses.{named, main, channel}
 use Rattle.register_map.specs.AccessRule.{mainAccess}
 use Rattle.register_map.specs.Verdicts.{readRefusal, writeRefusal}
-use Rattle.life.specs.declared.Channel.{Channel}
-use Rattle.life.specs.State.{opened}
-use Rattle.life.specs.Life as life
+use Rattle.channel_core.specs.declared.Channel.{Channel}
+use Rattle.channel_core.specs.State.{opened}
+use Rattle.channel_core.specs.Behaviour as core
 use Rattle.channel.specs.Calls as chn
-use Rattle.channel.specs.Alone.{withChannel, withSetpoints, withReadbacks, withUser, move, refusalOf, effect, userRefusal}
-use Rattle.channel.specs.Alone as to
+use Rattle.channel.specs.OneChannel.{withChannel, withSetpoints, withReadbacks, withUser, transition, refusalOf, effect, userRefusal}
+use Rattle.channel.specs.OneChannel as to
 use Rattle.board_state.specs.declared.Board.{Board}
-use Rattle.board_state.specs.State.{chan}
+use Rattle.board_state.specs.State.{channelAt}
 use Rattle.board_state.specs.Main.{mainWritten, mainRead, statusRead, takenAt}
 use Rattle.board.specs.Parts.{own}
 use Rattle.board.specs.Calls.{tickChannel, changedAt}
-use Rattle.board.specs.Calls as bench
-use Rattle.isolation.specs.Calls.{writeRegister, readRegister, writeSetpoint, arm, disarm, reply, retired, retiredLength, tick, event, changeUser, World, withBoard, after, wordsAfter}
+use Rattle.board.specs.Calls as calls
+use Rattle.board.specs.Worlds.{World}
+use Rattle.isolation.specs.Calls.{writeRegister, readRegister, writeSetpoint, arm, disarm, reply, retired, retiredLength, tick, event, changeUser, withBoard, after, wordsAfter}
 use Rattle.isolation.specs.Feeding.{view}
 use Rattle.isolation.proofs.Parts.{Number}
-use Rattle.isolation.proofs.Cases.{cond-case, four-stored, put-same, in-range}
-use Rattle.isolation.proofs.One.{move-write, move-reply, move-event, move-setpoint, move-tick, move-read, move-main, move-retired}
+use Rattle.isolation.proofs.Cases.{cond-case, four-stored, withChannelAt-same, in-range}
+use Rattle.isolation.proofs.One.{transition-write, transition-reply, transition-event, transition-setpoint, transition-tick, transition-read, transition-main, transition-retired}
 use Rattle.isolation.proofs.Words.{over-mine, setpoints-over, replies-over, writes-over, written-length, setpoint-length, reply-length}
 use Rattle.isolation.proofs.Worlds.{Good, plain, parted-sets, parted-reads, full-sets, full-reads}
 use Rattle.isolation.proofs.Events.{past-it}
@@ -35,115 +36,115 @@ module _ (w : World) (g : Good w) (c : ℕ) (h : Number c) where
   -- ---- Calls that name the channel
 
   pub view-write : (a o v : ℕ) → named a ≡ channel c o
-      → view c (plain w (writeRegister a v)) ≡ move (view c w) (to.writeRegister (length (w .readbacks)) o v)
-  unfolding after wordsAfter bench.writeBoard
+      → view c (plain w (writeRegister a v)) ≡ transition (view c w) (to.writeRegister (length (w .readbacks)) o v)
+  unfolding after wordsAfter calls.writeBoard
   view-write a o v e =
       rw (full-reads w g, e)
-      (ap₂ (withReadbacks (view c w)) (put-same (w .board) c _ (g .four) h)
+      (ap₂ (withReadbacks (view c w)) (withChannelAt-same (w .board) c _ (g .four) h)
       (ap (λ (r : List ℕ). own r (w .board .m * 2) c) (writes-over (w .board) (w .readbacks) c a o v e h)
       ∙ over-mine (w .readbacks) (w .board .m * 8) (w .board .m * 2) c
-      (λ (p : List ℕ). chn.writtenWords (chan (w .board) c) p (w .board .m) o v) (parted-reads (w .board))
-      (λ p. written-length (chan (w .board) c) p (w .board .m) o v) (g .reads) h)
-      ∙ sym (move-write (view c w) (length (w .readbacks)) (full-reads w g) o v))
+      (λ (p : List ℕ). chn.writtenWords (channelAt (w .board) c) p (w .board .m) o v) (parted-reads (w .board))
+      (λ p. written-length (channelAt (w .board) c) p (w .board .m) o v) (g .reads) h)
+      ∙ sym (transition-write (view c w) (length (w .readbacks)) (full-reads w g) o v))
 
-  pub view-read : (a o : ℕ) → named a ≡ channel c o → view c (plain w (readRegister a)) ≡ move (view c w) (to.readRegister o)
-  unfolding after bench.readBoard
+  pub view-read : (a o : ℕ) → named a ≡ channel c o → view c (plain w (readRegister a)) ≡ transition (view c w) (to.readRegister o)
+  unfolding after calls.readBoard
   view-read a o e =
-      rw e (ap (withChannel (view c w)) (put-same (w .board) c _ (g .four) h) ∙ sym (move-read (view c w) o))
+      rw e (ap (withChannel (view c w)) (withChannelAt-same (w .board) c _ (g .four) h) ∙ sym (transition-read (view c w) o))
 
   pub view-setpoint : (u f i x : ℕ)
-      → view c (plain w (writeSetpoint c u f i x)) ≡ move (view c w) (to.writeSetpoint (length (w .setpoints)) u f i x)
+      → view c (plain w (writeSetpoint c u f i x)) ≡ transition (view c w) (to.writeSetpoint (length (w .setpoints)) u f i x)
   unfolding after wordsAfter
   view-setpoint u f i x =
       ap (withSetpoints (view c w))
       (ap (λ (r : List ℕ). own r (w .board .n * 16) c) (setpoints-over (w .board) (w .setpoints) c u f i x)
       ∙ over-mine (w .setpoints) (w .board .n * 64) (w .board .n * 16) c
-      (λ (p : List ℕ). chn.setpointWords (chan (w .board) c) p (w .board .n) u f i x) (parted-sets (w .board))
-      (λ p. setpoint-length (chan (w .board) c) p (w .board .n) u f i x) (g .sets) h)
-      ∙ sym (move-setpoint (view c w) (length (w .setpoints)) (full-sets w g) u f i x)
+      (λ (p : List ℕ). chn.setpointWords (channelAt (w .board) c) p (w .board .n) u f i x) (parted-sets (w .board))
+      (λ p. setpoint-length (channelAt (w .board) c) p (w .board .n) u f i x) (g .sets) h)
+      ∙ sym (transition-setpoint (view c w) (length (w .setpoints)) (full-sets w g) u f i x)
 
-  pub view-arm : view c (plain w (arm c)) ≡ move (view c w) to.arm
-  unfolding after bench.armBoard move refusalOf effect
-  view-arm = rw (in-range c h) (ap (withChannel (view c w)) (put-same (w .board) c _ (g .four) h))
+  pub view-arm : view c (plain w (arm c)) ≡ transition (view c w) to.arm
+  unfolding after calls.armBoard transition refusalOf effect
+  view-arm = rw (in-range c h) (ap (withChannel (view c w)) (withChannelAt-same (w .board) c _ (g .four) h))
 
-  pub view-disarm : view c (plain w (disarm c)) ≡ move (view c w) to.disarm
-  unfolding after bench.disarmBoard move refusalOf effect
-  view-disarm = rw (in-range c h) (ap (withChannel (view c w)) (put-same (w .board) c _ (g .four) h))
+  pub view-disarm : view c (plain w (disarm c)) ≡ transition (view c w) to.disarm
+  unfolding after calls.disarmBoard transition refusalOf effect
+  view-disarm = rw (in-range c h) (ap (withChannel (view c w)) (withChannelAt-same (w .board) c _ (g .four) h))
 
-  pub view-reply : (f : ℕ) → view c (plain w (reply c f)) ≡ move (view c w) (to.reply (length (w .readbacks)) f)
-  unfolding after wordsAfter bench.replyBoard
+  pub view-reply : (f : ℕ) → view c (plain w (reply c f)) ≡ transition (view c w) (to.reply (length (w .readbacks)) f)
+  unfolding after wordsAfter calls.replyBoard
   view-reply f =
       rw (full-reads w g, in-range c h)
-      (ap₂ (withReadbacks (view c w)) (put-same (w .board) c _ (g .four) h)
+      (ap₂ (withReadbacks (view c w)) (withChannelAt-same (w .board) c _ (g .four) h)
       (ap (λ (r : List ℕ). own r (w .board .m * 2) c) (replies-over (w .board) (w .readbacks) c f)
       ∙ over-mine (w .readbacks) (w .board .m * 8) (w .board .m * 2) c
-      (λ (p : List ℕ). life.replyWords (chan (w .board) c) p (w .board .m) (w .board .user) f) (parted-reads (w .board))
-      (λ p. reply-length (chan (w .board) c) p (w .board .m) (w .board .user) f) (g .reads) h)
-      ∙ sym (move-reply (view c w) (length (w .readbacks)) (full-reads w g) f))
+      (λ (p : List ℕ). core.replyWords (channelAt (w .board) c) p (w .board .m) (w .board .user) f) (parted-reads (w .board))
+      (λ p. reply-length (channelAt (w .board) c) p (w .board .m) (w .board .user) f) (g .reads) h)
+      ∙ sym (transition-reply (view c w) (length (w .readbacks)) (full-reads w g) f))
 
-  pub view-retired : (d k j : ℕ) → view c (plain w (retired d)) ≡ move (view c w) (to.retired k j)
+  pub view-retired : (d k j : ℕ) → view c (plain w (retired d)) ≡ transition (view c w) (to.retired k j)
   unfolding after
-  view-retired d k j = sym (move-retired (view c w) k j .0)
+  view-retired d k j = sym (transition-retired (view c w) k j .0)
 
-  pub view-retiredLength : (d k j : ℕ) → view c (plain w (retiredLength d)) ≡ move (view c w) (to.retiredLength k j)
+  pub view-retiredLength : (d k j : ℕ) → view c (plain w (retiredLength d)) ≡ transition (view c w) (to.retiredLength k j)
   unfolding after
-  view-retiredLength d k j = sym (move-retired (view c w) k j .1)
+  view-retiredLength d k j = sym (transition-retired (view c w) k j .1)
 
   -- ---- Shared calls
 
-  pub view-tick : view c (plain w tick) ≡ move (view c w) (to.tick (length (w .setpoints)))
-  unfolding after wordsAfter bench.tickBoard tickChannel
+  pub view-tick : view c (plain w tick) ≡ transition (view c w) (to.tick (length (w .setpoints)))
+  unfolding after wordsAfter calls.tickBoard tickChannel
   view-tick =
       rw (full-sets w g)
       (ap (withChannel (view c w))
       (four-stored (λ (j : ℕ) (x : Channel). tickChannel (w .board) (w .setpoints) j) (w .board .channels) opened c (g .four) h)
-      ∙ sym (move-tick (view c w) (length (w .setpoints)) (full-sets w g)))
+      ∙ sym (transition-tick (view c w) (length (w .setpoints)) (full-sets w g)))
 
-  pub view-event : (x : ℕ) → view c (plain w (event x)) ≡ move (view c w) (to.event (length (w .readbacks)) x)
-  unfolding after wordsAfter bench.eventBoard bench.eventWords
+  pub view-event : (x : ℕ) → view c (plain w (event x)) ≡ transition (view c w) (to.event (length (w .readbacks)) x)
+  unfolding after wordsAfter calls.eventBoard calls.eventWords
   view-event x =
       rw (full-reads w g) (past-it w g x c h 4 (h .high) (omega arith))
-      ∙ sym (move-event (view c w) (length (w .readbacks)) (full-reads w g) x)
+      ∙ sym (transition-event (view c w) (length (w .readbacks)) (full-reads w g) x)
 
-  pub view-user : (u : ℕ) → view c (plain w (changeUser u)) ≡ move (view c w) (to.changeUser u)
-  unfolding after bench.userBoard changedAt move refusalOf effect
+  pub view-user : (u : ℕ) → view c (plain w (changeUser u)) ≡ transition (view c w) (to.changeUser u)
+  unfolding after calls.userBoard changedAt transition refusalOf effect
   view-user u = go (eqb (userRefusal u) 0) refl (eqb u (w .board .user)) refl
     where
       go : (t : Bool) → eqb (userRefusal u) 0 ≡ t → (q : Bool) → eqb u (w .board .user) ≡ q
-          → view c (plain w (changeUser u)) ≡ move (view c w) (to.changeUser u)
+          → view c (plain w (changeUser u)) ≡ transition (view c w) (to.changeUser u)
       go true e true r = rw (e, r)
       go true e false r =
           rw (e, r)
           (ap (withUser (view c w) u)
-          (four-stored (λ (j : ℕ) (x : Channel). life.userChanged x) (w .board .channels) opened c (g .four) h))
+          (four-stored (λ (j : ℕ) (x : Channel). core.userChanged x) (w .board .channels) opened c (g .four) h))
       go false e q r = rw e
 
   pub view-write-main : (a o v : ℕ) → named a ≡ main o
-      → view c (plain w (writeRegister a v)) ≡ move (view c w) (to.writeMain (length (w .readbacks)) o v)
-  unfolding after wordsAfter bench.writeBoard bench.writeWords mainWritten
+      → view c (plain w (writeRegister a v)) ≡ transition (view c w) (to.writeMain (length (w .readbacks)) o v)
+  unfolding after wordsAfter calls.writeBoard calls.writeWords mainWritten
   view-write-main a o v e =
       rw (full-reads w g, e)
       (cond-case (λ (b : Board). view c (withBoard w b) ≡ view c w) (eqb (writeRefusal (mainAccess o)) 0) (λ t. refl) (λ t. refl)
-      ∙ sym (move-main (view c w) (length (w .readbacks)) o v))
+      ∙ sym (transition-main (view c w) (length (w .readbacks)) o v))
 
-  main-read : (o : ℕ) → view c (withBoard w (mainRead (w .board) o)) ≡ withChannel (view c w) (to.mainRead (chan (w .board) c) o)
+  main-read : (o : ℕ) → view c (withBoard w (mainRead (w .board) o)) ≡ withChannel (view c w) (to.mainRead (channelAt (w .board) c) o)
   unfolding mainRead statusRead takenAt
   main-read o = go (eqb o 0x28) (eqb o 0x2a)
     where
       go : (t q : Bool)
           → view c (withBoard w (cond t (statusRead (w .board) false) (cond q (statusRead (w .board) true) (w .board))))
           ≡ withChannel (view c w)
-          (cond t (chn.mainTaken (chan (w .board) c) false) (cond q (chn.mainTaken (chan (w .board) c) true) (chan (w .board) c)))
+          (cond t (chn.mainTaken (channelAt (w .board) c) false) (cond q (chn.mainTaken (channelAt (w .board) c) true) (channelAt (w .board) c)))
       go true q = ap (withChannel (view c w)) (status-taken (w .board) false c h (g .four))
       go false true = ap (withChannel (view c w)) (status-taken (w .board) true c h (g .four))
       go false false = refl
 
-  pub view-read-main : (a o : ℕ) → named a ≡ main o → view c (plain w (readRegister a)) ≡ move (view c w) (to.readMain o)
-  unfolding after bench.readBoard move refusalOf effect
+  pub view-read-main : (a o : ℕ) → named a ≡ main o → view c (plain w (readRegister a)) ≡ transition (view c w) (to.readMain o)
+  unfolding after calls.readBoard transition refusalOf effect
   view-read-main a o e = rw e (go (eqb (readRefusal (mainAccess o)) 0))
     where
       go : (t : Bool)
           → view c (withBoard w (cond t (mainRead (w .board) o) (w .board)))
-          ≡ cond t (withChannel (view c w) (to.mainRead (chan (w .board) c) o)) (view c w)
+          ≡ cond t (withChannel (view c w) (to.mainRead (channelAt (w .board) c) o)) (view c w)
       go true = main-read o
       go false = refl

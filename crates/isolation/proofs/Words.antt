@@ -14,16 +14,16 @@ use Rattle.readback.specs.declared.Disposition.{Disposition}
 use Rattle.readback.specs.declared.Disposition.the-variants as disposition
 use Rattle.readback.specs.Storing.{capacity}
 use Rattle.status.specs.Bits.{bitAt}
-use Rattle.life.specs.declared.Channel.{Channel}
-use Rattle.life.specs.Life.{endedWords, groupWords, fateOf, fateWords, replyWordsAs}
-use Rattle.life.specs.Life as life
+use Rattle.channel_core.specs.declared.Channel.{Channel}
+use Rattle.channel_core.specs.Behaviour.{endedWords, groupWords, dispositionNow, receivedWords, replyWordsAs}
+use Rattle.channel_core.specs.Behaviour as core
 use Rattle.channel.specs.Calls.{registerRefusal, setpointRefusal}
 use Rattle.channel.specs.Calls as chn
 use Rattle.board_state.specs.declared.Board.{Board}
-use Rattle.board_state.specs.State.{chan}
+use Rattle.board_state.specs.State.{channelAt}
 use Rattle.board.specs.Parts.{own, withOwn}
 use Rattle.board.specs.Calls.{noChannel}
-use Rattle.board.specs.Calls as bench
+use Rattle.board.specs.Calls as calls
 use Rattle.isolation.proofs.Parts.{Number, own-length, own-mine, own-theirs, own-kept}
 use Rattle.isolation.proofs.Cases.{cond-case, in-range, range-in}
 
@@ -41,7 +41,7 @@ module _ (c : Channel) (s : List ℕ) where
       (λ t. refl)
 
   pub written-length : (m o v : ℕ) → Keeps s (chn.writtenWords c s m o v)
-  unfolding chn.writtenWords chn.registerWords life.commandWords
+  unfolding chn.writtenWords chn.registerWords core.commandWords
   written-length m o v =
       cond-case (Keeps s) (eqb (registerRefusal o v) 0)
       (λ t. cond-case (Keeps s) (eqb o 0x08) (λ q. ended-length (bitAt v 2) m) (λ q. refl))
@@ -52,22 +52,22 @@ module _ (c : Channel) (s : List ℕ) where
   setpoint-length n u f i x =
       cond-case (Keeps s) (eqb (setpointRefusal c n u f i) 0) (λ t. simp length-set) (λ t. refl)
 
-  pub reply-length : (m u f : ℕ) → Keeps s (life.replyWords c s m u f)
-  unfolding life.replyWords
+  pub reply-length : (m u f : ℕ) → Keeps s (core.replyWords c s m u f)
+  unfolding core.replyWords
   reply-length m u f = go (read f)
     where
-      fate : (d : Disposition) (x : ℕ) → Keeps s (fateWords d c s m x)
-      fate disposition.Unsolicited x = refl
-      fate disposition.Lost x = refl
-      fate disposition.Kept x =
+      disposed : (d : Disposition) (x : ℕ) → Keeps s (receivedWords d c s m x)
+      disposed disposition.Unsolicited x = refl
+      disposed disposition.Lost x = refl
+      disposed disposition.Kept x =
           cond-case (Keeps s) (ltb (c .readbacks .stored) (capacity m)) (λ t. simp length-set) (λ t. refl)
 
       go : (r : Reading) → Keeps s (replyWordsAs r c s m u)
       go (frame.refused k) = refl
-      go (frame.fields id word aux crc) = fate (fateOf c m) _
+      go (frame.fields id word aux crc) = disposed (dispositionNow c m) _
 
-  pub event-length : (m x : ℕ) → Keeps s (life.eventWords c s m x)
-  unfolding life.eventWords
+  pub event-length : (m x : ℕ) → Keeps s (core.eventWords c s m x)
+  unfolding core.eventWords
   event-length m x = ended-length (triggersOf (c .registers) groupEndEvent x) m
 
 -- ---- A memory of which a call rewrites the part of the channel that it names
@@ -111,19 +111,19 @@ module _ (s : List ℕ) (total size d : ℕ) (f : List ℕ → List ℕ) (parted
 
 module _ (b : Board) (s : List ℕ) (d : ℕ) where
   pub setpoints-over : (u f i x : ℕ)
-      → bench.setpointWords b s d u f i x
-      ≡ over s (b .n * 64) (b .n * 16) d (λ (p : List ℕ). chn.setpointWords (chan b d) p (b .n) u f i x)
-  unfolding bench.setpointWords
+      → calls.setpointWords b s d u f i x
+      ≡ over s (b .n * 64) (b .n * 16) d (λ (p : List ℕ). chn.setpointWords (channelAt b d) p (b .n) u f i x)
+  unfolding calls.setpointWords
   setpoints-over u f i x = refl
 
   pub replies-over : (f : ℕ)
-      → bench.replyWords b s d f
-      ≡ over s (b .m * 8) (b .m * 2) d (λ (p : List ℕ). life.replyWords (chan b d) p (b .m) (b .user) f)
-  unfolding bench.replyWords
+      → calls.replyWords b s d f
+      ≡ over s (b .m * 8) (b .m * 2) d (λ (p : List ℕ). core.replyWords (channelAt b d) p (b .m) (b .user) f)
+  unfolding calls.replyWords
   replies-over f = refl
 
   pub writes-over : (a o v : ℕ) → named a ≡ channel d o → Number d
-      → bench.writeWords b s a v
-      ≡ over s (b .m * 8) (b .m * 2) d (λ (p : List ℕ). chn.writtenWords (chan b d) p (b .m) o v)
-  unfolding bench.writeWords
+      → calls.writeWords b s a v
+      ≡ over s (b .m * 8) (b .m * 2) d (λ (p : List ℕ). chn.writtenWords (channelAt b d) p (b .m) o v)
+  unfolding calls.writeWords
   writes-over a o v e h = rw (e, in-range d h)

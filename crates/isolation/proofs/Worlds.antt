@@ -8,7 +8,8 @@ use lib.ListN.{length}
 use lib.Dec.{eqb}
 use borrow.Author.Tests.{eq-eqb}
 use Rattle.board_state.specs.declared.Board.{Board}
-use Rattle.isolation.specs.Calls.{Call, writeRegister, readRegister, writeSetpoint, arm, disarm, reply, retired, retiredLength, tick, event, changeUser, interruptLevel, Lent, Item, World, after, left, refused, given, withBoard, back, step, Fits}
+use Rattle.board.specs.Worlds.{World}
+use Rattle.isolation.specs.Calls.{Call, writeRegister, readRegister, writeSetpoint, arm, disarm, reply, retired, retiredLength, tick, event, changeUser, interruptLevel, Lent, Item, after, left, refused, given, withBoard, back, step, Fits}
 use Rattle.isolation.proofs.Cases.{cond-case}
 use Rattle.isolation.proofs.Refused.{refused-changes-nothing}
 

@@ -6,13 +6,14 @@ use mathlib.Core.Logic.{_⊎_}
 use mathlib.Core.List.{List, [], _∷_}
 use mathlib.Core.Bool.{Bool, true, false, cond}
 use lib.ListN.{length, take, drop}
-use Rattle.life.specs.Answers.{Answer}
-use Rattle.life.specs.Answers as ans
+use Rattle.channel_core.specs.Answers.{Answer}
+use Rattle.channel_core.specs.Answers as ans
 use Rattle.board_state.specs.declared.Board.{Board}
 use Rattle.board_state.specs.Main.{levelOf}
 use Rattle.board.specs.Parts.{own}
-use Rattle.board.specs.Answers.{Said, one, each}
-use Rattle.board.specs.Calls as bench
+use Rattle.board.specs.Worlds.{World}
+use Rattle.board.specs.Answers.{BoardAnswer, one, refuses}
+use Rattle.board.specs.Calls as calls
 
 -- "In the list stand the calls under Calls, the retired call's twin" (`retiredLength`): a call's arguments alone
 pub data Call : Type 0 where
@@ -39,12 +40,6 @@ pub record Item : Type 0 where
   pub call : Call
   pub lent : Lent
 
--- the board, and both memories as they were left
-pub record World : Type 0 where
-  pub board : Board
-  pub setpoints : List ℕ
-  pub readbacks : List ℕ
-
 -- the memory, or the first buffer; the second buffer
 abbrev pub first : Lent → List ℕ
 first none = []
@@ -63,47 +58,47 @@ lengths (buffers s t) = length s ∷ (length t ∷ [])
 
 -- ---- What the contracts say of a call, refused or not: its answer, the board after it, the lent words after it
 
-unfoldable pub answer : Board → Call → Lent → Said
-answer b (writeRegister address value) l = one (bench.writeAnswer b (length (first l)) address value)
-answer b (readRegister address) l = one (bench.readAnswer b address)
+unfoldable pub answer : Board → Call → Lent → BoardAnswer
+answer b (writeRegister address value) l = one (calls.writeAnswer b (length (first l)) address value)
+answer b (readRegister address) l = one (calls.readAnswer b address)
 answer b (writeSetpoint number user buffer index word) l =
-    one (bench.setpointAnswer b (length (first l)) number user buffer index)
-answer b (arm number) l = one (bench.armAnswer number)
-answer b (disarm number) l = one (bench.armAnswer number)
-answer b (reply number frame) l = one (bench.replyAnswer b (length (first l)) number frame)
-answer b (retired number) l = one (bench.retiredAnswer b number (first l) (second l))
-answer b (retiredLength number) l = one (bench.retiredLength b number (first l) (second l))
-answer b tick l = bench.tickSaid b (first l)
-answer b (event code) l = one (bench.eventAnswer b (length (first l)))
-answer b (changeUser user) l = one (bench.userAnswer user)
+    one (calls.setpointAnswer b (length (first l)) number user buffer index)
+answer b (arm number) l = one (calls.armAnswer number)
+answer b (disarm number) l = one (calls.armAnswer number)
+answer b (reply number frame) l = one (calls.replyAnswer b (length (first l)) number frame)
+answer b (retired number) l = one (calls.retiredAnswer b number (first l) (second l))
+answer b (retiredLength number) l = one (calls.retiredLength b number (first l) (second l))
+answer b tick l = calls.tickBoardAnswer b (first l)
+answer b (event code) l = one (calls.eventAnswer b (length (first l)))
+answer b (changeUser user) l = one (calls.userAnswer user)
 answer b interruptLevel l = one (ans.value (levelOf b))
 
 unfoldable pub after : Board → Call → Lent → Board
-after b (writeRegister address value) l = bench.writeBoard b (length (first l)) address value
-after b (readRegister address) l = bench.readBoard b address
+after b (writeRegister address value) l = calls.writeBoard b (length (first l)) address value
+after b (readRegister address) l = calls.readBoard b address
 after b (writeSetpoint number user buffer index word) l = b
-after b (arm number) l = bench.armBoard b number
-after b (disarm number) l = bench.disarmBoard b number
-after b (reply number frame) l = bench.replyBoard b (length (first l)) number frame
+after b (arm number) l = calls.armBoard b number
+after b (disarm number) l = calls.disarmBoard b number
+after b (reply number frame) l = calls.replyBoard b (length (first l)) number frame
 after b (retired number) l = b
 after b (retiredLength number) l = b
-after b tick l = bench.tickBoard b (first l)
-after b (event code) l = bench.eventBoard b (length (first l)) code
-after b (changeUser user) l = bench.userBoard b user
+after b tick l = calls.tickBoard b (first l)
+after b (event code) l = calls.eventBoard b (length (first l)) code
+after b (changeUser user) l = calls.userBoard b user
 after b interruptLevel l = b
 
 -- a memory after the call that it was lent to. Register write, setpoint write, reply and event may change it
 unfoldable pub wordsAfter : Board → Call → List ℕ → List ℕ
-wordsAfter b (writeRegister address value) s = bench.writeWords b s address value
+wordsAfter b (writeRegister address value) s = calls.writeWords b s address value
 wordsAfter b (readRegister address) s = s
-wordsAfter b (writeSetpoint number user buffer index word) s = bench.setpointWords b s number user buffer index word
+wordsAfter b (writeSetpoint number user buffer index word) s = calls.setpointWords b s number user buffer index word
 wordsAfter b (arm number) s = s
 wordsAfter b (disarm number) s = s
-wordsAfter b (reply number frame) s = bench.replyWords b s number frame
+wordsAfter b (reply number frame) s = calls.replyWords b s number frame
 wordsAfter b (retired number) s = s
 wordsAfter b (retiredLength number) s = s
 wordsAfter b tick s = s
-wordsAfter b (event code) s = bench.eventWords b s code
+wordsAfter b (event code) s = calls.eventWords b s code
 wordsAfter b (changeUser user) s = s
 wordsAfter b interruptLevel s = s
 
@@ -114,25 +109,8 @@ left b x (buffers s t) = buffers s t
 
 -- ---- Refusals
 
-abbrev pub refuses : Answer → Bool
-refuses (ans.refused k) = true
-refuses ans.done = false
-refuses (ans.value v) = false
-refuses (ans.bit t) = false
-refuses (ans.frame f) = false
-refuses ans.none = false
-refuses ans.kept = false
-refuses ans.lost = false
-refuses ans.unsolicited = false
-refuses (ans.part s) = false
-refuses (ans.partLength k) = false
-
-abbrev pub refusesSaid : Said → Bool
-refusesSaid (one a) = refuses a
-refusesSaid (each f g h k) = false
-
 abbrev pub refused : Board → Call → Lent → Bool
-refused b x l = refusesSaid (answer b x l)
+refused b x l = refuses (answer b x l)
 
 -- ---- One call
 
@@ -209,7 +187,7 @@ last w (i ∷ is) = last (step w i) is
 abbrev pub opening : ℕ → ℕ → List ℕ → List ℕ → World
 opening n m setpoints readbacks =
     record {
-      board = bench.openBoard n m (length setpoints) (length readbacks);
+      board = calls.openBoard n m (length setpoints) (length readbacks);
       setpoints = setpoints;
       readbacks = readbacks;
     }

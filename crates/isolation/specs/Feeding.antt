@@ -6,14 +6,15 @@ use lib.ListN.{length}
 use lib.Dec.{eqb}
 use Rattle.status.specs.Bits.{bitAt}
 use Rattle.register_map.specs.Addresses.{Named, named, main, channel, nothing}
-use Rattle.life.specs.Answers.{Answer}
-use Rattle.life.specs.Answers as ans
-use Rattle.channel.specs.Alone.{Alone, ChannelCall}
-use Rattle.channel.specs.Alone as to
-use Rattle.board_state.specs.State.{chan}
+use Rattle.channel_core.specs.Answers.{Answer, isRefusal}
+use Rattle.channel_core.specs.Answers as ans
+use Rattle.channel.specs.OneChannel.{OneChannel, ChannelCall}
+use Rattle.channel.specs.OneChannel as to
+use Rattle.board_state.specs.State.{channelAt}
 use Rattle.board.specs.Parts.{own}
-use Rattle.board.specs.Answers.{Said, one, each}
-use Rattle.isolation.specs.Calls.{Call, writeRegister, readRegister, writeSetpoint, arm, disarm, reply, retired, retiredLength, tick, event, changeUser, interruptLevel, first, second, Item, World, answer, refuses, step}
+use Rattle.board.specs.Answers.{BoardAnswer, one, each}
+use Rattle.board.specs.Worlds.{World}
+use Rattle.isolation.specs.Calls.{Call, writeRegister, readRegister, writeSetpoint, arm, disarm, reply, retired, retiredLength, tick, event, changeUser, interruptLevel, first, second, Item, answer, step}
 
 -- one, or none
 abbrev pub only : {A : Type 0} → Bool → A → List A
@@ -85,13 +86,13 @@ ofFour (suc (suc (suc zero))) f g h k = h
 ofFour (suc (suc (suc (suc c)))) f g h k = k
 
 -- an answer, or of a tick's this channel's: its "frame or none"
-abbrev pub said : ℕ → Said → Answer
+abbrev pub said : ℕ → BoardAnswer → Answer
 said c (one a) = a
 said c (each f g h k) = ofFour c f g h k
 
 -- "for a shared call, the number if refused"; of any other answer nothing is compared
 abbrev pub shared : Answer → Answer
-shared a = cond (refuses a) a ans.done
+shared a = cond (isRefusal a) a ans.done
 
 abbrev pub valueOf : Answer → ℕ
 valueOf (ans.refused k) = 0
@@ -109,42 +110,42 @@ valueOf (ans.partLength k) = 0
 -- "and its bit when 28 or 2A is read": "D7–D4 channels 4–1"
 abbrev pub sharedRead : ℕ → ℕ → Answer → Answer
 sharedRead c offset a =
-    cond (refuses a) a (cond (eqb offset 0x28 || eqb offset 0x2a) (ans.bit (bitAt (valueOf a) (3 + c))) ans.done)
+    cond (isRefusal a) a (cond (eqb offset 0x28 || eqb offset 0x2a) (ans.bit (bitAt (valueOf a) (3 + c))) ans.done)
 
-abbrev pub hearWrite : ℕ → Named → Answer → List Answer
-hearWrite c (main offset) a = shared a ∷ []
-hearWrite c (channel number offset) a = only (eqb number c) a
-hearWrite c nothing a = []
+abbrev pub observeWrite : ℕ → Named → Answer → List Answer
+observeWrite c (main offset) a = shared a ∷ []
+observeWrite c (channel number offset) a = only (eqb number c) a
+observeWrite c nothing a = []
 
-abbrev pub hearRead : ℕ → Named → Answer → List Answer
-hearRead c (main offset) a = sharedRead c offset a ∷ []
-hearRead c (channel number offset) a = only (eqb number c) a
-hearRead c nothing a = []
+abbrev pub observeRead : ℕ → Named → Answer → List Answer
+observeRead c (main offset) a = sharedRead c offset a ∷ []
+observeRead c (channel number offset) a = only (eqb number c) a
+observeRead c nothing a = []
 
 -- "for a call naming the channel, the answer, be it a refusal's number or a part's words in order"
-abbrev pub hear : ℕ → Call → Said → List Answer
-hear c (writeRegister address value) s = hearWrite c (named address) (said c s)
-hear c (readRegister address) s = hearRead c (named address) (said c s)
-hear c (writeSetpoint number user buffer index word) s = only (eqb number c) (said c s)
-hear c (arm number) s = only (eqb number c) (said c s)
-hear c (disarm number) s = only (eqb number c) (said c s)
-hear c (reply number frame) s = only (eqb number c) (said c s)
-hear c (retired number) s = only (eqb number c) (said c s)
-hear c (retiredLength number) s = only (eqb number c) (said c s)
-hear c tick s = said c s ∷ []
-hear c (event code) s = shared (said c s) ∷ []
-hear c (changeUser user) s = shared (said c s) ∷ []
-hear c interruptLevel s = []
+abbrev pub observe : ℕ → Call → BoardAnswer → List Answer
+observe c (writeRegister address value) s = observeWrite c (named address) (said c s)
+observe c (readRegister address) s = observeRead c (named address) (said c s)
+observe c (writeSetpoint number user buffer index word) s = only (eqb number c) (said c s)
+observe c (arm number) s = only (eqb number c) (said c s)
+observe c (disarm number) s = only (eqb number c) (said c s)
+observe c (reply number frame) s = only (eqb number c) (said c s)
+observe c (retired number) s = only (eqb number c) (said c s)
+observe c (retiredLength number) s = only (eqb number c) (said c s)
+observe c tick s = said c s ∷ []
+observe c (event code) s = shared (said c s) ∷ []
+observe c (changeUser user) s = shared (said c s) ∷ []
+observe c interruptLevel s = []
 
 -- ---- What of the world is channel c's: all that the one-channel definition holds
 
-abbrev pub view : ℕ → World → Alone
+abbrev pub view : ℕ → World → OneChannel
 view c w =
     record {
       n = w .board .n;
       m = w .board .m;
       user = w .board .user;
-      channel = chan (w .board) c;
+      channel = channelAt (w .board) c;
       setpoints = own (w .setpoints) (w .board .n * 16) c;
       readbacks = own (w .readbacks) (w .board .m * 2) c;
     }
@@ -155,6 +156,6 @@ abbrev pub fed : ℕ → List Item → List ChannelCall
 fed c [] = []
 fed c (i ∷ is) = feeds c i ++ fed c is
 
-abbrev pub hears : ℕ → World → List Item → List Answer
-hears c w [] = []
-hears c w (i ∷ is) = hear c (i .call) (answer (w .board) (i .call) (i .lent)) ++ hears c (step w i) is
+abbrev pub observes : ℕ → World → List Item → List Answer
+observes c w [] = []
+observes c w (i ∷ is) = observe c (i .call) (answer (w .board) (i .call) (i .lent)) ++ observes c (step w i) is

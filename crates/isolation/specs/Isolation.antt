@@ -6,27 +6,28 @@ use mathlib.Core.Bool.{true, false}
 use mathlib.Core.List.{List, [], _∷_}
 use lib.ListN.{length}
 use Rattle.status.specs.Bits.{bitAt}
-use Rattle.life.specs.Answers as ans
+use Rattle.channel_core.specs.Answers as ans
 use Rattle.channel.specs.Calls.{mainBit}
-use Rattle.channel.specs.Alone.{Alone, alone, says, moves, tells, bufferOne, bufferTwo}
-use Rattle.channel.specs.Alone as to
+use Rattle.channel.specs.OneChannel.{OneChannel, oneChannel, response, transitions, responses, bufferOne, bufferTwo}
+use Rattle.channel.specs.OneChannel as to
 use Rattle.histories.specs.Ranges.{InRange}
 use Rattle.board_state.specs.declared.Board.{Board}
-use Rattle.board_state.specs.State.{chan}
+use Rattle.board_state.specs.State.{channelAt}
 use Rattle.board_state.specs.Main.{mainStatus}
 use Rattle.board.specs.Parts.{own}
 use Rattle.board.specs.Calls.{openAnswer, readAnswer}
-use Rattle.isolation.specs.Calls.{Call, writeSetpoint, tick, Lent, words, buffers, Item, World, after, left, refused, ownBuffers, step, Fits, Allowed, last, opening}
-use Rattle.isolation.specs.Feeding.{names, feeds, fed, hears, view}
+use Rattle.board.specs.Worlds.{World}
+use Rattle.isolation.specs.Calls.{Call, writeSetpoint, tick, Lent, words, buffers, Item, after, left, refused, ownBuffers, step, Fits, Allowed, last, opening}
+use Rattle.isolation.specs.Feeding.{names, feeds, fed, observes, view}
 
 -- one channel by itself, opened with the same depths and its own part of the words
-abbrev pub aloneAt : ℕ → ℕ → ℕ → List ℕ → List ℕ → Alone
-aloneAt c n m setpoints readbacks = alone n m (own setpoints (n * 16) c) (own readbacks (m * 2) c)
+abbrev pub oneChannelAt : ℕ → ℕ → ℕ → List ℕ → List ℕ → OneChannel
+oneChannelAt c n m setpoints readbacks = oneChannel n m (own setpoints (n * 16) c) (own readbacks (m * 2) c)
 
 -- along a list: what channel c hears is what the one-channel definition says, fed what c is fed; and it ends as that does
-pub record AsAlone (c : ℕ) (w : World) (xs : List Item) (o : Alone) : Type 0 where
-  pub heard : hears c w xs ≡ tells o (fed c xs)
-  pub ends : view c (last w xs) ≡ moves o (fed c xs)
+pub record MatchesOneChannel (c : ℕ) (w : World) (xs : List Item) (o : OneChannel) : Type 0 where
+  pub observed : observes c w xs ≡ responses o (fed c xs)
+  pub ends : view c (last w xs) ≡ transitions o (fed c xs)
 
 -- THE CLAIM. "It is one claim about the whole list of calls, not one for each call." "It starts at an opening that wasn't refused."
 abbrev pub Isolation : Type 0
@@ -35,19 +36,19 @@ Isolation =
     → openAnswer n m (length s) (length r) ≡ ans.done
     → (c : ℕ) → 1 ≤ c → c ≤ 4
     → (xs : List Item) → Allowed (opening n m s r) xs
-    → AsAlone c (opening n m s r) xs (aloneAt c n m s r)
+    → MatchesOneChannel c (opening n m s r) xs (oneChannelAt c n m s r)
 
 -- ---- The same of the end, in document 01's words: "after the list, what its registers hold, both statuses too, both Main bits, its setpoint
 -- words and both readback buffers in full"
 
-pub record Shows (n m c : ℕ) (w : World) (o : Alone) : Type 0 where
+pub record Shows (n m c : ℕ) (w : World) (o : OneChannel) : Type 0 where
   -- every register, and every other offset, as a read on the board would answer
-  pub registers : (offset : ℕ) → offset < 0x800 → readAnswer (w .board) (0x800 * c + offset) ≡ says o (to.readRegister offset)
+  pub registers : (offset : ℕ) → offset < 0x800 → readAnswer (w .board) (0x800 * c + offset) ≡ response o (to.readRegister offset)
   -- the switch bits, which no read shows
-  pub switches : chan (w .board) c .registers .switches ≡ o .channel .registers .switches
+  pub switches : channelAt (w .board) c .registers .switches ≡ o .channel .registers .switches
   -- both statuses
-  pub interruptStatus : chan (w .board) c .status .interrupt .bits ≡ o .channel .status .interrupt .bits
-  pub pollingStatus : chan (w .board) c .status .polling .bits ≡ o .channel .status .polling .bits
+  pub interruptStatus : channelAt (w .board) c .status .interrupt .bits ≡ o .channel .status .interrupt .bits
+  pub pollingStatus : channelAt (w .board) c .status .polling .bits ≡ o .channel .status .polling .bits
   -- its bit in 28 and in 2A: "D7–D4 channels 4–1"
   pub mainInterrupt : bitAt (mainStatus (w .board) false) (3 + c) ≡ mainBit (o .channel) false
   pub mainPolling : bitAt (mainStatus (w .board) true) (3 + c) ≡ mainBit (o .channel) true
@@ -62,7 +63,7 @@ IsolationShown =
     → openAnswer n m (length s) (length r) ≡ ans.done
     → (c : ℕ) → 1 ≤ c → c ≤ 4
     → (xs : List Item) → Allowed (opening n m s r) xs
-    → Shows n m c (last (opening n m s r) xs) (moves (aloneAt c n m s r) (fed c xs))
+    → Shows n m c (last (opening n m s r) xs) (transitions (oneChannelAt c n m s r) (fed c xs))
 
 -- ---- Beside it
 
@@ -93,7 +94,7 @@ FedTheSame =
     → own s (n * 16) c ≡ own s' (n * 16) c → own r (m * 2) c ≡ own r' (m * 2) c
     → (xs ys : List Item) → Allowed (opening n m s r) xs → Allowed (opening n m s' r') ys
     → fed c xs ≡ fed c ys
-    → (hears c (opening n m s r) xs ≡ hears c (opening n m s' r') ys)
+    → (observes c (opening n m s r) xs ≡ observes c (opening n m s' r') ys)
     × (view c (last (opening n m s r) xs) ≡ view c (last (opening n m s' r') ys))
 
 -- the defaults of the total definitions are never used: from an opening, over any allowed list, each channel's indices, counts, countdowns and

@@ -40,14 +40,14 @@ abbrev pub fileText : List ℕ
 fileText = 102 ∷ 105 ∷ 108 ∷ 101 ∷ 32 ∷ []
 
 -- frames of channels 1 to 4
-unfoldable pub framesOf : Counts → List ℕ
-framesOf c =
+unfoldable pub frameCounts : Counts → List ℕ
+frameCounts c =
     decimal (c .first) ++ (space ++ (decimal (c .second) ++ (space ++ (decimal (c .third) ++ (space ++ decimal (c .fourth))))))
 
 -- the line, with no line end: `steps S refused R frames A B C D`, or `file 8`
-unfoldable pub lineOf : RunAnswer → List ℕ
-lineOf (counted c) = stepsText ++ (decimal (c .steps) ++ (refusedText ++ (decimal (c .refused) ++ (framesText ++ framesOf c))))
-lineOf (refused k) = fileText ++ decimal k
+unfoldable pub logLine : RunAnswer → List ℕ
+logLine (counted c) = stepsText ++ (decimal (c .steps) ++ (refusedText ++ (decimal (c .refused) ++ (framesText ++ frameCounts c))))
+logLine (refused k) = fileText ++ decimal k
 
 -- the first `size` bytes of a buffer are the line
 abbrev pub Fills : ℕ → List ℕ → List ℕ → Type 0

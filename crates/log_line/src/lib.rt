@@ -6,7 +6,7 @@ ghost use mathlib.Core.List.{[], _∷_, _++_};
 ghost use Prim.Native.Nat.{_+_, _≤_, _<_};
 ghost use lib.ListN.{length, take};
 ghost use Rattle.tally.specs.Answers.{ranOf};
-ghost use Rattle.log_line.specs.Lines.{digit, high, low, decimal, framesOf, lineOf, Fills};
+ghost use Rattle.log_line.specs.Lines.{digit, high, low, decimal, frameCounts, logLine, Fills};
 
 // Each of these writes at a place of the buffer and answers the place after it.
 fn put(out: &mut [u8], at: usize, byte: u8) -> usize
@@ -73,7 +73,7 @@ fn put_text(out: &mut [u8], at: usize, text: &[u8]) -> usize
 
 fn put_frames(out: &mut [u8], at: usize, c: Counts) -> usize
     requires { ⌜ at + 43 ≤ length (now out) ⌝ }
-    ensures { λ r. ⌜ (at ≤ r) × (r ≤ at + 43) × (take r (now (out .exit)) ≡ take at (now (out .entry)) ++ framesOf c) ⌝ }
+    ensures { λ r. ⌜ (at ≤ r) × (r ≤ at + 43) × (take r (now (out .exit)) ≡ take at (now (out .entry)) ++ frameCounts c) ⌝ }
 {
     let p = put_number(out, at, c.first);
     let q = put(out, p, b' ');
@@ -86,7 +86,7 @@ fn put_frames(out: &mut [u8], at: usize, c: Counts) -> usize
 
 // Writes the line, with no line end, and answers its length.
 pub fn write_line(out: &mut [u8; 96], ran: Ran) -> usize
-    ensures { λ r. ⌜ Fills r (now (out .exit)) (lineOf (ranOf ran)) ⌝ }
+    ensures { λ r. ⌜ Fills r (now (out .exit)) (logLine (ranOf ran)) ⌝ }
 {
     match ran {
         Ran::Counted(c) => {

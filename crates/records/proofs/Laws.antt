@@ -9,7 +9,7 @@ use lib.ListN.{length, take, drop, length-take, length-drop, take-append-drop}
 use lib.Seq.{drop-drop}
 use lib.Dec.{eqb, ltb}
 use borrow.Author.Tests.{eqb-true, le-ltb}
-use Rattle.life.specs.Answers as ans
+use Rattle.channel_core.specs.Answers as ans
 use Rattle.channel.specs.Calls.{unless}
 use Rattle.records.specs.Files.{distance, count, fileRefusal, recordsPart, recordsLength}
 use Rattle.records.specs.Requests.{setpoint, setpointAsked}

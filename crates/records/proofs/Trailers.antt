@@ -7,7 +7,7 @@ use native.Mathlib.Omega.{arith}
 use lib.ListN.{length, take, drop}
 use lib.Dec.{eqb, ltb}
 use borrow.Author.Tests.{eqb-true, ltb-false, eq-eqb}
-use Rattle.life.specs.Answers as ans
+use Rattle.channel_core.specs.Answers as ans
 use Rattle.channel.proofs.Ranges.{clash, passed}
 use Rattle.records.specs.Files.{distance, count, fileRefusal, recordsPart, recordsLength}
 

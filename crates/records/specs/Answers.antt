@@ -1,7 +1,7 @@
 -- Which of document 01's numbers and values each case of the reader's answer stands for.
 use Rattle.refusal.specs.Refusals.{numberOf}
-use Rattle.life.specs.Answers.{Answer}
-use Rattle.life.specs.Answers as ans
+use Rattle.channel_core.specs.Answers.{Answer}
+use Rattle.channel_core.specs.Answers as ans
 use Rattle.records.specs.declared.RecordsLength.{RecordsLength}
 use Rattle.records.specs.declared.RecordsLength.the-variants as long
 

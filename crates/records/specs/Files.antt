@@ -6,8 +6,8 @@ use lib.ListN.{length, getD, take, drop}
 use lib.Dec.{eqb, ltb}
 use Rattle.refusal.specs.Refusals.{numberOf}
 use Rattle.refusal.specs.declared.Refusal.the-variants as refusal
-use Rattle.life.specs.Answers.{Answer}
-use Rattle.life.specs.Answers as ans
+use Rattle.channel_core.specs.Answers.{Answer}
+use Rattle.channel_core.specs.Answers as ans
 use Rattle.channel.specs.Calls.{unless}
 
 -- "little-endian": the 16-bit and the 32-bit number whose lowest byte stands at `at`

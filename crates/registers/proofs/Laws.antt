@@ -9,7 +9,7 @@ use native.Mathlib.Nat.{not-suc-le-zero, le-of-suc-le-suc}
 use borrow.Author.Tests.{eq-eqb, ne-eqb}
 use lib.ListN.{length, getD, set, replicate, length-set, List·getD-eq-default}
 use lib.Seq.{getD-set-same, getD-set-other}
-use Rattle.registers.specs.Map.{stored, loaded, delayWritten, delayShown, secondOf, readbackPlace, flips, groupEnded}
+use Rattle.registers.specs.Map.{stored, loaded, delayWritten, delayShown, secondActive, readbackPlace, flips, groupEnded}
 use Rattle.registers.specs.declared.Registers.{Registers}
 use Rattle.registers.proofs.Places.{event-stored, event-loaded, delay-stored, delay-loaded}
 
@@ -69,23 +69,23 @@ flips-at (x ∷ a) (y ∷ s) (suc i) h = flips-at a s i (le-of-suc-le-suc h)
 
 -- the active buffers with the readbacks' switched
 abbrev turned : Registers → List Bool
-turned r = set (r .active) readbackPlace (not (secondOf r readbackPlace))
+turned r = set (r .active) readbackPlace (not (secondActive r readbackPlace))
 
 module _ (r : Registers) (count : ℕ) (l : length (r .active) ≡ 16) where
   -- Group End switches a user's buffers where the user's Switch is set, and leaves them where it is not
   pub group-end-switches : (place : ℕ) → place < 8
-      → secondOf (groupEnded r count) place ≡ cond (getD (r .switches) place false) (not (secondOf r place)) (secondOf r place)
+      → secondActive (groupEnded r count) place ≡ cond (getD (r .switches) place false) (not (secondActive r place)) (secondActive r place)
   unfolding groupEnded
   group-end-switches place h =
       let here : place < length (turned r) = rw length-set (omega arith) in
       let other : place ≡ readbackPlace → ⊥ = omega arith in
       rw (flips-at, getD-set-other)
 
-  pub group-end-leaves : (place : ℕ) → place < 8 → getD (r .switches) place false ≡ false → secondOf (groupEnded r count) place ≡ secondOf r place
+  pub group-end-leaves : (place : ℕ) → place < 8 → getD (r .switches) place false ≡ false → secondActive (groupEnded r count) place ≡ secondActive r place
   group-end-leaves place h off = group-end-switches place h ∙ rw off
 
   -- the readback buffers always switch
-  pub readbacks-switch : length (r .switches) ≡ 8 → secondOf (groupEnded r count) readbackPlace ≡ not (secondOf r readbackPlace)
+  pub readbacks-switch : length (r .switches) ≡ 8 → secondActive (groupEnded r count) readbackPlace ≡ not (secondActive r readbackPlace)
   unfolding groupEnded
   readbacks-switch e =
       let here : readbackPlace < length (r .active) = omega arith in

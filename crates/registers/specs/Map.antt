@@ -4,7 +4,7 @@ use mathlib.Core.Bool.{Bool, true, false, cond, not, _&&_}
 use mathlib.Core.List.{List, [], _∷_}
 use lib.ListN.{getD, set, replicate}
 use lib.Dec.{eqb, ltb}
-use Rattle.status.specs.Bits.{bitAt, wordOf}
+use Rattle.status.specs.Bits.{bitAt, wordOfBits}
 use Rattle.registers.specs.Fields.{withClock, withId, withEvents, withSwitches, withDelays}
 use Rattle.registers.specs.declared.Registers.{Registers}
 
@@ -44,8 +44,8 @@ abbrev pub delayOf : Registers → ℕ → ℕ → ℕ
 delayOf r bank user = getD (r .delays) (bank * 8 + (user - 1)) 0
 
 -- whether buffer 2 is active; `place` is a user less 1, or 8 for the readback buffers: a bit of "Active Buffers"
-abbrev pub secondOf : Registers → ℕ → Bool
-secondOf r place = getD (r .active) place false
+abbrev pub secondActive : Registers → ℕ → Bool
+secondActive r place = getD (r .active) place false
 
 abbrev pub readbackPlace : ℕ
 readbackPlace = 8
@@ -78,7 +78,7 @@ stored r offset value =
 unfoldable pub loaded : Registers → ℕ → ℕ
 loaded r offset =
     cond (eqb offset 0x0a) (r .clock)
-    (cond (eqb offset 0x0e) (wordOf (r .active))
+    (cond (eqb offset 0x0e) (wordOfBits (r .active))
     (cond (eqb offset 0x10) (r .shown / 65536 % 256)
     (cond (eqb offset 0x12) (r .shown % 65536)
     (cond (eqb offset 0x14) (r .id)
@@ -98,7 +98,7 @@ unfoldable pub groupEnded : Registers → ℕ → Registers
 groupEnded r count =
     record {
       clock = r .clock;
-      active = flips (set (r .active) readbackPlace (not (secondOf r readbackPlace))) (r .switches);
+      active = flips (set (r .active) readbackPlace (not (secondActive r readbackPlace))) (r .switches);
       shown = count;
       id = r .id;
       events = r .events;

@@ -4,7 +4,7 @@ ghost use mathlib.Core.Path.{_≡_};
 ghost use Prim.Native.Nat.{_+_, _-_};
 ghost use mathlib.Core.Bool.{false};
 ghost use lib.ListN.{getD};
-ghost use Rattle.registers.specs.Map.{opened, periodOf, matches, triggersOf, delayOf, secondOf, stored, loaded, flips, groupEnded};
+ghost use Rattle.registers.specs.Map.{opened, periodOf, matches, triggersOf, delayOf, secondActive, stored, loaded, flips, groupEnded};
 
 pub struct Registers {
     // 0A
@@ -46,7 +46,7 @@ fn holds(register: u16, code: u8) -> bool
 }
 
 // A user's place from 0.
-pub fn below(user: u8) -> u8
+pub fn zero_based(user: u8) -> u8
     ensures { λ r. ⌜ r ≡ user - 1 ⌝ }
 {
     if 0 < user {
@@ -111,7 +111,7 @@ impl Registers {
     pub fn delay(self, bank: u8, user: u8) -> u32
         ensures { λ r. ⌜ r ≡ delayOf self bank user ⌝ }
     {
-        let at = bank as usize * 8 + below(user) as usize;
+        let at = bank as usize * 8 + zero_based(user) as usize;
         let d = self.delays;
         if at < 40 {
             return d[at];
@@ -120,16 +120,16 @@ impl Registers {
     }
 
     // Whether buffer 2 is the active one of a user's setpoint buffers.
-    pub fn second(self, user: u8) -> bool
-        ensures { λ r. ⌜ r ≡ secondOf self (user - 1) ⌝ }
+    pub fn second_active(self, user: u8) -> bool
+        ensures { λ r. ⌜ r ≡ secondActive self (user - 1) ⌝ }
     {
         let a = self.active;
-        flag_at(a, below(user))
+        flag_at(a, zero_based(user))
     }
 
     // Whether buffer 2 is the active one of the readback buffers.
-    pub fn readback_second(self) -> bool
-        ensures { λ r. ⌜ r ≡ secondOf self 8 ⌝ }
+    pub fn readback_second_active(self) -> bool
+        ensures { λ r. ⌜ r ≡ secondActive self 8 ⌝ }
     {
         let a = self.active;
         flag_at(a, 8)
@@ -186,7 +186,7 @@ impl Registers {
         }
         if offset == 0x0e {
             let a = self.active;
-            return status::word_of(a);
+            return status::word_of_bits(a);
         }
         if offset == 0x10 {
             return (self.shown / 65536 % 256) as u16;

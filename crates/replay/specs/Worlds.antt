@@ -4,31 +4,23 @@ use mathlib.Core.List.{List, [], _∷_, _++_}
 use lib.ListN.{length}
 use Rattle.refusal.specs.Refusals.{numberOf}
 use Rattle.refusal.specs.declared.Refusal.the-variants as refusal
-use Rattle.life.specs.Answers.{Answer}
-use Rattle.life.specs.Answers as ans
+use Rattle.channel_core.specs.Answers.{Answer}
+use Rattle.channel_core.specs.Answers as ans
 use Rattle.board_state.specs.declared.Board.{Board}
-use Rattle.board.specs.Answers.{Said, one}
-use Rattle.board.specs.Calls.{writeBoard, writeAnswer, writeWords, readBoard, readAnswer, setpointAnswer, setpointWords, armBoard, disarmBoard, armAnswer, replyBoard, replyAnswer, replyWords, tickBoard, tickSaid, eventBoard, eventAnswer, eventWords, userBoard, userAnswer}
+use Rattle.board.specs.Worlds.{World, world}
+use Rattle.board.specs.Answers.{BoardAnswer, one}
+use Rattle.board.specs.Calls.{writeBoard, writeAnswer, writeWords, readBoard, readAnswer, setpointAnswer, setpointWords, armBoard, disarmBoard, armAnswer, replyBoard, replyAnswer, replyWords, tickBoard, tickBoardAnswer, eventBoard, eventAnswer, eventWords, userBoard, userAnswer}
 use Rattle.records.specs.Requests.{Asked}
 use Rattle.records.specs.Requests as asked
-
--- the board and both memories
-pub record World : Type 0 where
-  pub board : Board
-  pub setpoints : List ℕ
-  pub readbacks : List ℕ
-
-abbrev pub world : Board → List ℕ → List ℕ → World
-world b s r = record { board = b; setpoints = s; readbacks = r }
 
 -- "5 b ticks": the board after k ticks, and what each of them answered
 unfoldable pub ticked : Board → List ℕ → ℕ → Board
 ticked b s zero = b
 ticked b s (suc k) = tickBoard (ticked b s k) s
 
-unfoldable pub tickAnswers : Board → List ℕ → ℕ → List Said
+unfoldable pub tickAnswers : Board → List ℕ → ℕ → List BoardAnswer
 tickAnswers b s zero = []
-tickAnswers b s (suc k) = tickAnswers b s k ++ (tickSaid (ticked b s k) s ∷ [])
+tickAnswers b s (suc k) = tickAnswers b s k ++ (tickBoardAnswer (ticked b s k) s ∷ [])
 
 -- 9
 abbrev pub badRecord : Answer
@@ -52,7 +44,7 @@ after w (asked.disarm number) = world (disarmBoard (w .board) number) (w .setpoi
 after w asked.bad = w
 
 -- the answers to a record, in order: one for each call that it makes; a bad record makes none and shows 9
-unfoldable pub answers : World → Asked → List Said
+unfoldable pub answers : World → Asked → List BoardAnswer
 answers w (asked.write address value) = one (writeAnswer (w .board) (length (w .readbacks)) address value) ∷ []
 answers w (asked.read address) = one (readAnswer (w .board) address) ∷ []
 answers w (asked.setpoint number user buffer index word) =

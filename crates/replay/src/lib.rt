@@ -7,18 +7,19 @@ use tally::Counts;
 ghost use mathlib.Core.Path.{_≡_};
 ghost use lib.ListN.{length};
 ghost use Rattle.board.specs.Answers.{one};
-ghost use Rattle.board.specs.Calls.{writeBoard, writeAnswer, writeWords, readBoard, readAnswer, setpointAnswer, setpointWords, armBoard, disarmBoard, armAnswer, replyBoard, replyAnswer, replyWords, tickBoard, tickSaid, eventBoard, eventAnswer, eventWords, userBoard, userAnswer};
+ghost use Rattle.board.specs.Calls.{writeBoard, writeAnswer, writeWords, readBoard, readAnswer, setpointAnswer, setpointWords, armBoard, disarmBoard, armAnswer, replyBoard, replyAnswer, replyWords, tickBoard, tickBoardAnswer, eventBoard, eventAnswer, eventWords, userBoard, userAnswer};
 ghost use Rattle.records.specs.Requests.{requestOf};
 ghost use Rattle.tally.specs.Tallies.{tally, tallies};
-ghost use Rattle.replay.specs.Worlds.{badRecord, world, ticked, tickAnswers, after, answers};
+ghost use Rattle.board.specs.Worlds.{world};
+ghost use Rattle.replay.specs.Worlds.{badRecord, ticked, tickAnswers, after, answers};
 
 // The board of a run, and what is counted so far.
-pub struct Bench {
+pub struct RunState {
     pub board: Board,
     pub counts: Counts,
 }
 
-fn write(s: Bench, readbacks: &mut [u32], address: u32, value: u16) -> Bench
+fn write(s: RunState, readbacks: &mut [u32], address: u32, value: u16) -> RunState
     ensures { λ r. ⌜ (r .board ≡ writeBoard (s .board) (length (now (readbacks .entry))) address value) × (r .counts ≡ tally (s .counts) (one (writeAnswer (s .board) (length (now (readbacks .entry))) address value))) × (now (readbacks .exit) ≡ writeWords (s .board) (now (readbacks .entry)) address value) ⌝ }
 {
     let b = s.board;
@@ -26,13 +27,13 @@ fn write(s: Bench, readbacks: &mut [u32], address: u32, value: u16) -> Bench
     let w = board_registers::write_register(b, readbacks, address, value);
     let board = w.board;
     let outcome = w.outcome;
-    Bench {
+    RunState {
         board: board,
         counts: c.outcome(outcome),
     }
 }
 
-fn read(s: Bench, address: u32) -> Bench
+fn read(s: RunState, address: u32) -> RunState
     ensures { λ r. ⌜ (r .board ≡ readBoard (s .board) address) × (r .counts ≡ tally (s .counts) (one (readAnswer (s .board) address))) ⌝ }
 {
     let b = s.board;
@@ -40,33 +41,33 @@ fn read(s: Bench, address: u32) -> Bench
     let w = board_registers::read_register(b, address);
     let board = w.board;
     let shown = w.shown;
-    Bench {
+    RunState {
         board: board,
         counts: c.read(shown),
     }
 }
 
 fn setpoint(
-    s: Bench,
+    s: RunState,
     setpoints: &mut [u32],
     number: u32,
     user: u32,
     buffer: u32,
     index: u32,
     word: u32,
-) -> Bench
+) -> RunState
     ensures { λ r. ⌜ (r .board ≡ s .board) × (r .counts ≡ tally (s .counts) (one (setpointAnswer (s .board) (length (now (setpoints .entry))) number user buffer index))) × (now (setpoints .exit) ≡ setpointWords (s .board) (now (setpoints .entry)) number user buffer index word) ⌝ }
 {
     let b = s.board;
     let c = s.counts;
     let outcome = board::write_setpoint(b, setpoints, number, user, buffer, index, word);
-    Bench {
+    RunState {
         board: b,
         counts: c.outcome(outcome),
     }
 }
 
-fn event(s: Bench, readbacks: &mut [u32], code: u8) -> Bench
+fn event(s: RunState, readbacks: &mut [u32], code: u8) -> RunState
     ensures { λ r. ⌜ (r .board ≡ eventBoard (s .board) (length (now (readbacks .entry))) code) × (r .counts ≡ tally (s .counts) (one (eventAnswer (s .board) (length (now (readbacks .entry)))))) × (now (readbacks .exit) ≡ eventWords (s .board) (now (readbacks .entry)) code) ⌝ }
 {
     let b = s.board;
@@ -74,13 +75,13 @@ fn event(s: Bench, readbacks: &mut [u32], code: u8) -> Bench
     let w = board::event(b, readbacks, code);
     let board = w.board;
     let outcome = w.outcome;
-    Bench {
+    RunState {
         board: board,
         counts: c.outcome(outcome),
     }
 }
 
-fn reply(s: Bench, readbacks: &mut [u32], number: u32, frame: u64) -> Bench
+fn reply(s: RunState, readbacks: &mut [u32], number: u32, frame: u64) -> RunState
     ensures { λ r. ⌜ (r .board ≡ replyBoard (s .board) (length (now (readbacks .entry))) number frame) × (r .counts ≡ tally (s .counts) (one (replyAnswer (s .board) (length (now (readbacks .entry))) number frame))) × (now (readbacks .exit) ≡ replyWords (s .board) (now (readbacks .entry)) number frame) ⌝ }
 {
     let b = s.board;
@@ -88,13 +89,13 @@ fn reply(s: Bench, readbacks: &mut [u32], number: u32, frame: u64) -> Bench
     let w = board::reply(b, readbacks, number, frame);
     let board = w.board;
     let receipt = w.receipt;
-    Bench {
+    RunState {
         board: board,
         counts: c.reply(receipt),
     }
 }
 
-fn user(s: Bench, user: u32) -> Bench
+fn user(s: RunState, user: u32) -> RunState
     ensures { λ r. ⌜ (r .board ≡ userBoard (s .board) user) × (r .counts ≡ tally (s .counts) (one (userAnswer user))) ⌝ }
 {
     let b = s.board;
@@ -102,13 +103,13 @@ fn user(s: Bench, user: u32) -> Bench
     let w = board::change_user(b, user);
     let board = w.board;
     let outcome = w.outcome;
-    Bench {
+    RunState {
         board: board,
         counts: c.outcome(outcome),
     }
 }
 
-fn arm(s: Bench, number: u32) -> Bench
+fn arm(s: RunState, number: u32) -> RunState
     ensures { λ r. ⌜ (r .board ≡ armBoard (s .board) number) × (r .counts ≡ tally (s .counts) (one (armAnswer number))) ⌝ }
 {
     let b = s.board;
@@ -116,13 +117,13 @@ fn arm(s: Bench, number: u32) -> Bench
     let w = board::arm(b, number);
     let board = w.board;
     let outcome = w.outcome;
-    Bench {
+    RunState {
         board: board,
         counts: c.outcome(outcome),
     }
 }
 
-fn disarm(s: Bench, number: u32) -> Bench
+fn disarm(s: RunState, number: u32) -> RunState
     ensures { λ r. ⌜ (r .board ≡ disarmBoard (s .board) number) × (r .counts ≡ tally (s .counts) (one (armAnswer number))) ⌝ }
 {
     let b = s.board;
@@ -130,28 +131,28 @@ fn disarm(s: Bench, number: u32) -> Bench
     let w = board::disarm(b, number);
     let board = w.board;
     let outcome = w.outcome;
-    Bench {
+    RunState {
         board: board,
         counts: c.outcome(outcome),
     }
 }
 
-fn tick(s: Bench, setpoints: &[u32]) -> Bench
-    ensures { λ r. ⌜ (r .board ≡ tickBoard (s .board) (now (setpoints .entry))) × (r .counts ≡ tally (s .counts) (tickSaid (s .board) (now (setpoints .entry)))) ⌝ }
+fn tick(s: RunState, setpoints: &[u32]) -> RunState
+    ensures { λ r. ⌜ (r .board ≡ tickBoard (s .board) (now (setpoints .entry))) × (r .counts ≡ tally (s .counts) (tickBoardAnswer (s .board) (now (setpoints .entry)))) ⌝ }
 {
     let b = s.board;
     let c = s.counts;
     let w = board::tick(b, setpoints);
     let board = w.board;
     let frames = w.frames;
-    Bench {
+    RunState {
         board: board,
         counts: c.tick(frames),
     }
 }
 
 // A record of so many ticks makes that many ticks of the board.
-fn ticks(s: Bench, setpoints: &[u32], count: u32) -> Bench
+fn ticks(s: RunState, setpoints: &[u32], count: u32) -> RunState
     ensures { λ r. ⌜ (r .board ≡ ticked (s .board) (now (setpoints .entry)) count) × (r .counts ≡ tallies (s .counts) (tickAnswers (s .board) (now (setpoints .entry)) count)) ⌝ }
 {
     let mut x = s;
@@ -164,19 +165,19 @@ fn ticks(s: Bench, setpoints: &[u32], count: u32) -> Bench
 }
 
 // A bad record makes no call and is refused 9.
-fn bad(s: Bench) -> Bench
+fn bad(s: RunState) -> RunState
     ensures { λ r. ⌜ (r .board ≡ s .board) × (r .counts ≡ tally (s .counts) (one badRecord)) ⌝ }
 {
     let b = s.board;
     let c = s.counts;
-    Bench {
+    RunState {
         board: b,
         counts: c.outcome(Outcome::Refused(Refusal::BadRecord)),
     }
 }
 
 // What a record asks, done and counted.
-pub fn apply(s: Bench, setpoints: &mut [u32], readbacks: &mut [u32], q: Request) -> Bench
+pub fn apply(s: RunState, setpoints: &mut [u32], readbacks: &mut [u32], q: Request) -> RunState
     ensures { λ r. ⌜ (world (r .board) (now (setpoints .exit)) (now (readbacks .exit)) ≡ after (world (s .board) (now (setpoints .entry)) (now (readbacks .entry))) (requestOf q)) × (r .counts ≡ tallies (s .counts) (answers (world (s .board) (now (setpoints .entry)) (now (readbacks .entry))) (requestOf q))) ⌝ }
 {
     match q {

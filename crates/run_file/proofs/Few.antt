@@ -11,7 +11,8 @@ use Rattle.board_state.specs.declared.Board.{Board}
 use Rattle.records.specs.Files.{number16, number32}
 use Rattle.records.specs.Requests.{Asked, ticksAsked, askedBy, askedOf}
 use Rattle.records.specs.Requests as asked
-use Rattle.replay.specs.Worlds.{World, tickAnswers, answers}
+use Rattle.board.specs.Worlds.{World}
+use Rattle.replay.specs.Worlds.{tickAnswers, answers}
 use Rattle.run_file.specs.Runs.{askedAt, worldAfter, answersAlong}
 
 -- what a record can ask. "5 b ticks (1–10,000)"

@@ -9,14 +9,15 @@ use lib.ListN.{length, length-append}
 use lib.Dec.{eqb}
 use borrow.Author.Tests.{lt-ltb, eqb-true}
 use Rattle.status.specs.Bits.{bitOf}
-use Rattle.board.specs.Answers.{Said}
+use Rattle.board.specs.Answers.{BoardAnswer, refuses}
 use Rattle.records.specs.Files.{count, fileRefusal, recordsPart}
 use Rattle.channel.proofs.Ranges.{clash}
 use Rattle.records.proofs.Trailers.{whole}
 use Rattle.tally.specs.declared.Counts.{Counts}
-use Rattle.tally.specs.Tallies.{nothingYet, more, refuses, firstSends, secondSends, thirdSends, fourthSends, tally, tallies, stepped}
+use Rattle.tally.specs.Tallies.{nothingYet, more, firstSends, secondSends, thirdSends, fourthSends, tally, tallies, stepped}
 use Rattle.tally.specs.Answers.{counted, refused}
-use Rattle.replay.specs.Worlds.{World, answers}
+use Rattle.board.specs.Worlds.{World}
+use Rattle.replay.specs.Worlds.{answers}
 use Rattle.run_file.specs.Runs.{start, askedAt, worldAfter, answersAlong, countsAfter, runOf}
 use Rattle.run_file.specs.Laws.{howMany, answersOf, Drawn}
 use Rattle.run_file.proofs.Few.{along-few}
@@ -25,7 +26,7 @@ more-is : (test : Bool) (n : ℕ) → n < 4294967295 → more test n ≡ bitOf t
 more-is true n h = rw (lt-ltb n 4294967295 h) (omega arith)
 more-is false n h = omega arith
 
-many-append : (test : Said → Bool) (xs ys : List Said) → howMany test (xs ++ ys) ≡ howMany test xs + howMany test ys
+many-append : (test : BoardAnswer → Bool) (xs ys : List BoardAnswer) → howMany test (xs ++ ys) ≡ howMany test xs + howMany test ys
 unfolding howMany
 many-append test [] ys = omega arith
 many-append test (x ∷ xs) ys = rw (many-append test xs ys) (omega arith)
@@ -34,15 +35,15 @@ small : (b : Bool) → bitOf b ≤ 1
 small true = omega arith
 small false = omega arith
 
-many-le : (test : Said → Bool) (xs : List Said) → howMany test xs ≤ length xs
+many-le : (test : BoardAnswer → Bool) (xs : List BoardAnswer) → howMany test xs ≤ length xs
 unfolding howMany
 many-le test [] = omega arith
 many-le test (x ∷ xs) = let e = many-le test xs in omega (arith, small (test x))
 
 -- one count, with the test that it counts by
-module _ (get : Counts → ℕ) (test : Said → Bool) (tallied : (c : Counts) (x : Said) → get (tally c x) ≡ more (test x) (get c))
+module _ (get : Counts → ℕ) (test : BoardAnswer → Bool) (tallied : (c : Counts) (x : BoardAnswer) → get (tally c x) ≡ more (test x) (get c))
     (kept : (c : Counts) → get (stepped c) ≡ get c) where
-  drawn-list : (c : Counts) (xs : List Said) → get c + length xs ≤ 4294967295 → get (tallies c xs) ≡ get c + howMany test xs
+  drawn-list : (c : Counts) (xs : List BoardAnswer) → get c + length xs ≤ 4294967295 → get (tallies c xs) ≡ get c + howMany test xs
   unfolding tallies howMany
   drawn-list c [] h = omega arith
   drawn-list c (x ∷ xs) h = drawn-list (tally c x) xs (rw e (omega (arith, small (test x)))) ∙ rw e (omega arith)
@@ -50,7 +51,7 @@ module _ (get : Counts → ℕ) (test : Said → Bool) (tallied : (c : Counts) (
       e : get (tally c x) ≡ bitOf (test x) + get c
       e = tallied c x ∙ more-is (test x) (get c) (omega arith)
 
-  drawn-more : (c : Counts) (before xs : List Said) → get c ≡ howMany test before → length (before ++ xs) ≤ 4294967295
+  drawn-more : (c : Counts) (before xs : List BoardAnswer) → get c ≡ howMany test before → length (before ++ xs) ≤ 4294967295
       → get (stepped (tallies c xs)) ≡ howMany test (before ++ xs)
   drawn-more c before xs e l =
       let m = many-le test before in
@@ -66,7 +67,7 @@ module _ (get : Counts → ℕ) (test : Said → Bool) (tallied : (c : Counts) (
       let l : length (answersAlong o part k) + length xs ≤ 4294967295 = rw length-append at h in
       drawn-more (countsAfter o part k) (answersAlong o part k) xs (drawn-along o part k z (omega arith)) h
 
-tallies-steps : (c : Counts) (xs : List Said) → tallies c xs .steps ≡ c .steps
+tallies-steps : (c : Counts) (xs : List BoardAnswer) → tallies c xs .steps ≡ c .steps
 unfolding tallies tally
 tallies-steps c [] = refl
 tallies-steps c (x ∷ xs) = tallies-steps (tally c x) xs

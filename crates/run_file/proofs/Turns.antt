@@ -8,12 +8,13 @@ use native.Mathlib.Omega.{arith}
 use lib.ListN.{length, length-take, length-drop}
 use lib.Dec.{eqb}
 use borrow.Author.Tests.{eqb-true, eq-eqb}
-use Rattle.life.specs.Answers as ans
+use Rattle.channel_core.specs.Answers as ans
 use Rattle.channel.proofs.Ranges.{clash}
 use Rattle.tally.specs.Answers.{counted, refused}
 use Rattle.tally.specs.declared.Counts.{Counts}
 use Rattle.tally.specs.Tallies.{tallies, stepped}
-use Rattle.replay.specs.Worlds.{World, after, answers}
+use Rattle.board.specs.Worlds.{World}
+use Rattle.replay.specs.Worlds.{after, answers}
 use Rattle.records.specs.Files.{count, distance, fileRefusal, recordsPart, recordsLength}
 use Rattle.records.proofs.Trailers.{whole, accepted}
 use Rattle.run_file.specs.Runs.{start, askedAt, worldAfter, countsAfter, runOf}

@@ -4,19 +4,19 @@ use mathlib.Core.Path.{_≡_}
 use mathlib.Core.Bool.{Bool}
 use mathlib.Core.List.{List, [], _∷_}
 use Rattle.status.specs.Bits.{bitOf}
-use Rattle.board.specs.Answers.{Said}
+use Rattle.board.specs.Answers.{BoardAnswer, refuses}
 use Rattle.records.specs.Files.{count, recordsPart}
 use Rattle.tally.specs.declared.Counts.{Counts}
-use Rattle.tally.specs.Tallies.{refuses, firstSends, secondSends, thirdSends, fourthSends}
+use Rattle.tally.specs.Tallies.{firstSends, secondSends, thirdSends, fourthSends}
 use Rattle.run_file.specs.Runs.{start, answersAlong}
 
 -- how many answers pass a test
-unfoldable pub howMany : (Said → Bool) → List Said → ℕ
+unfoldable pub howMany : (BoardAnswer → Bool) → List BoardAnswer → ℕ
 howMany test [] = 0
 howMany test (x ∷ xs) = bitOf (test x) + howMany test xs
 
 -- all that the calls of a file's run answered, in order; a bad record shows 9
-abbrev pub answersOf : List ℕ → List Said
+abbrev pub answersOf : List ℕ → List BoardAnswer
 answersOf file = answersAlong start (recordsPart file) (count file)
 
 -- "records, refusals and frames of channels 1–4"

@@ -4,15 +4,16 @@ use mathlib.Core.Bool.{cond}
 use mathlib.Core.List.{List, [], _++_}
 use lib.ListN.{take, drop, replicate}
 use lib.Dec.{eqb}
-use Rattle.board.specs.Answers.{Said}
+use Rattle.board.specs.Answers.{BoardAnswer}
 use Rattle.board.specs.Calls.{openBoard}
 use Rattle.records.specs.Files.{count, fileRefusal, recordsPart}
 use Rattle.records.specs.Requests.{Asked, askedOf}
 use Rattle.tally.specs.declared.Counts.{Counts}
 use Rattle.tally.specs.Tallies.{nothingYet, tallies, stepped}
 use Rattle.tally.specs.Answers.{RunAnswer, counted, refused}
-use Rattle.replay.specs.Worlds.{World, world, after, answers}
-use Rattle.log_line.specs.Lines.{lineOf}
+use Rattle.board.specs.Worlds.{World, world}
+use Rattle.replay.specs.Worlds.{after, answers}
+use Rattle.log_line.specs.Lines.{logLine}
 
 -- "N is 16, M is 64, memory zeroed."
 unfoldable pub start : World
@@ -28,7 +29,7 @@ worldAfter w part zero = w
 worldAfter w part (suc k) = after (worldAfter w part k) (askedAt part k)
 
 -- all that the board's calls answered along them, in order
-unfoldable pub answersAlong : World → List ℕ → ℕ → List Said
+unfoldable pub answersAlong : World → List ℕ → ℕ → List BoardAnswer
 answersAlong w part zero = []
 answersAlong w part (suc k) = answersAlong w part k ++ answers (worldAfter w part k) (askedAt part k)
 
@@ -44,4 +45,4 @@ runOf file =
 
 -- and its line
 unfoldable pub runLine : List ℕ → List ℕ
-runLine file = lineOf (runOf file)
+runLine file = logLine (runOf file)

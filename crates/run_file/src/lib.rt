@@ -1,7 +1,7 @@
 // The run of a file: its records' calls on a board of its own, into six counts, and the line that says them.
 use board_state::Board;
 use records::RecordsLength;
-use replay::Bench;
+use replay::RunState;
 use tally::Counts;
 use tally::Ran;
 ghost use mathlib.Core.Path.{_≡_};
@@ -10,11 +10,18 @@ ghost use lib.ListN.{length};
 ghost use Rattle.log_line.specs.Lines.{Fills};
 ghost use Rattle.tally.specs.Tallies.{tallies, stepped};
 ghost use Rattle.tally.specs.Answers.{ranOf};
-ghost use Rattle.replay.specs.Worlds.{world, after, answers};
+ghost use Rattle.board.specs.Worlds.{world};
+ghost use Rattle.replay.specs.Worlds.{after, answers};
 ghost use Rattle.run_file.specs.Runs.{start, askedAt, countsAfter, runOf, runLine};
 
 // Record k of the part, from 0: done and counted.
-fn step(s: Bench, part: &[u8], k: usize, setpoints: &mut [u32], readbacks: &mut [u32]) -> Bench
+fn step(
+    s: RunState,
+    part: &[u8],
+    k: usize,
+    setpoints: &mut [u32],
+    readbacks: &mut [u32],
+) -> RunState
     requires { ⌜ 8 * k + 8 ≤ length (now part) ⌝ }
     ensures { λ r. ⌜ (world (r .board) (now (setpoints .exit)) (now (readbacks .exit)) ≡ after (world (s .board) (now (setpoints .entry)) (now (readbacks .entry))) (askedAt (now (part .entry)) k)) × (r .counts ≡ stepped (tallies (s .counts) (answers (world (s .board) (now (setpoints .entry)) (now (readbacks .entry))) (askedAt (now (part .entry)) k)))) ⌝ }
 {
@@ -24,7 +31,7 @@ fn step(s: Bench, part: &[u8], k: usize, setpoints: &mut [u32], readbacks: &mut 
     let x = replay::apply(s, setpoints, readbacks, q);
     let board = x.board;
     let counts = x.counts;
-    Bench {
+    RunState {
         board: board,
         counts: counts.stepped(),
     }
@@ -35,7 +42,7 @@ fn play(b: Board, part: &[u8], setpoints: &mut [u32], readbacks: &mut [u32]) -> 
     ensures { λ r. ⌜ r ≡ countsAfter (world b (now (setpoints .entry)) (now (readbacks .entry))) (now (part .entry)) (length (now (part .entry)) / 8) ⌝ }
 {
     let n = part.len() / 8;
-    let mut x = Bench {
+    let mut x = RunState {
         board: b,
         counts: Counts::nothing(),
     };

@@ -8,7 +8,7 @@ use native.Mathlib.Nat.{pow-succ', zero-div, div-div-eq-div-mul}
 use lib.ListN.{getD}
 use lib.Pow.{shr-shr}
 use borrow.Author.Tests.{eq-eqb, ne-eqb}
-use Rattle.status.specs.Bits.{bitAt, bitOf, wordOf}
+use Rattle.status.specs.Bits.{bitAt, bitOf, wordOfBits}
 use Rattle.status.specs.Latching.{keptEnable}
 use Rattle.status.proofs.Words.{bit-small}
 
@@ -19,12 +19,12 @@ half b w k =
     rw (pow-succ' 2 k, ← div-div-eq-div-mul, e)
 
 -- D`k` of the word shown is the k-th latched bit, and 0 past the last
-pub word-bit : (l : List Bool) (k : ℕ) → bitAt (wordOf l) k ≡ getD l k false
-unfolding wordOf
+pub word-bit : (l : List Bool) (k : ℕ) → bitAt (wordOfBits l) k ≡ getD l k false
+unfolding wordOfBits
 word-bit [] k = rw zero-div
-word-bit (true ∷ l) zero = eq-eqb ((1 + 2 * wordOf l) / 1 % 2) 1 (omega arith)
-word-bit (false ∷ l) zero = ne-eqb ((0 + 2 * wordOf l) / 1 % 2) 1 (omega arith)
-word-bit (b ∷ l) (suc k) = half b (wordOf l) k ∙ word-bit l k
+word-bit (true ∷ l) zero = eq-eqb ((1 + 2 * wordOfBits l) / 1 % 2) 1 (omega arith)
+word-bit (false ∷ l) zero = ne-eqb ((0 + 2 * wordOfBits l) / 1 % 2) 1 (omega arith)
+word-bit (b ∷ l) (suc k) = half b (wordOfBits l) k ∙ word-bit l k
 
 -- Interrupt Enable drops D3
 pub enable-drops : (v : ℕ) → bitAt (keptEnable v) 3 ≡ false

@@ -8,7 +8,7 @@ use native.Mathlib.Nat.{pow-suc, div-eq-of-lt}
 use lib.ListN.{length, getD, drop, length-drop, drop-of-length-le}
 use lib.Pow.{pow-mono}
 use lib.Seq.{drop-cons}
-use Rattle.status.specs.Bits.{bitAt, bitOf, wordOf}
+use Rattle.status.specs.Bits.{bitAt, bitOf, wordOfBits}
 
 -- a word of sixteen bits has none at 16 and above
 pub bit-past : (word k : ℕ) → word < 65536 → 16 ≤ k → bitAt word k ≡ false
@@ -20,25 +20,25 @@ pub bit-small : (b : Bool) → bitOf b ≤ 1
 bit-small true = omega arith
 bit-small false = omega arith
 
-word-below : (l : List Bool) → wordOf l < 2 ^ length l
-unfolding wordOf
+word-below : (l : List Bool) → wordOfBits l < 2 ^ length l
+unfolding wordOfBits
 word-below [] = omega arith
 word-below (b ∷ l) = omega (arith, pow-suc 2 (length l), word-below l, bit-small b)
 
 -- of sixteen bits, those from k on
 module _ (a : List Bool) (l : length a ≡ 16) where
-  pub word-none : 0 ≡ wordOf (drop 16 a)
-  unfolding wordOf
-  word-none = sym (ap wordOf (drop-of-length-le a {i = 16} (omega arith)))
+  pub word-none : 0 ≡ wordOfBits (drop 16 a)
+  unfolding wordOfBits
+  word-none = sym (ap wordOfBits (drop-of-length-le a {i = 16} (omega arith)))
 
-  pub word-small : (k : ℕ) → wordOf (drop k a) < 65536
+  pub word-small : (k : ℕ) → wordOfBits (drop k a) < 65536
   word-small k =
       let s : length (drop k a) ≤ 16 = rw length-drop (omega arith) in
       let m : 2 ^ length (drop k a) ≤ 65536 = pow-mono s in
       omega (arith, word-below (drop k a))
 
-  pub word-back : (k : ℕ) → 0 < k → k ≤ 16 → bitOf (getD a (k - 1) false) + 2 * wordOf (drop k a) ≡ wordOf (drop (k - 1) a)
-  unfolding wordOf
+  pub word-back : (k : ℕ) → 0 < k → k ≤ 16 → bitOf (getD a (k - 1) false) + 2 * wordOfBits (drop k a) ≡ wordOfBits (drop (k - 1) a)
+  unfolding wordOfBits
   word-back k h s =
       let e : suc (k - 1) ≡ k = omega arith in
-      sym (ap wordOf (drop-cons a (k - 1) false (omega arith)) ∙ ap (λ (j : ℕ). bitOf (getD a (k - 1) false) + 2 * wordOf (drop j a)) e)
+      sym (ap wordOfBits (drop-cons a (k - 1) false (omega arith)) ∙ ap (λ (j : ℕ). bitOf (getD a (k - 1) false) + 2 * wordOfBits (drop j a)) e)

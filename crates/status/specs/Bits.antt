@@ -14,6 +14,6 @@ bitOf true = 1
 bitOf false = 0
 
 -- the word whose bits, D0 first, are listed
-unfoldable pub wordOf : List Bool → ℕ
-wordOf [] = 0
-wordOf (b ∷ l) = bitOf b + 2 * wordOf l
+unfoldable pub wordOfBits : List Bool → ℕ
+wordOfBits [] = 0
+wordOfBits (b ∷ l) = bitOf b + 2 * wordOfBits l

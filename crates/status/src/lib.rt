@@ -1,7 +1,7 @@
 // A channel's status: what is enabled, and two copies of the latched conditions, each with the channel's bit in the Main status of that copy.
 ghost use mathlib.Core.Path.{_≡_};
 ghost use Prim.Native.Nat.{_+_, _*_, _<_};
-ghost use Rattle.status.specs.Bits.{bitAt, bitOf, wordOf};
+ghost use Rattle.status.specs.Bits.{bitAt, bitOf, wordOfBits};
 ghost use Rattle.status.specs.Latching.{none, latchedIn, clearedIn, takenIn, opened, latched, enabled, reset};
 
 // Bits of the channel status.
@@ -49,8 +49,8 @@ fn pushed(word: u32, bit: bool) -> u32
 }
 
 // The word of sixteen bits, the first of which is D0.
-pub fn word_of(bits: [bool; 16]) -> u16
-    ensures { λ r. ⌜ r ≡ wordOf bits ⌝ }
+pub fn word_of_bits(bits: [bool; 16]) -> u16
+    ensures { λ r. ⌜ r ≡ wordOfBits bits ⌝ }
 {
     let mut k: usize = 16;
     let mut w: u32 = 0;

@@ -3,59 +3,26 @@ use Prim.Native.Nat.{ℕ, _+_}
 use mathlib.Core.Bool.{Bool, true, false, cond}
 use mathlib.Core.List.{List, [], _∷_}
 use lib.Dec.{ltb}
-use Rattle.life.specs.Answers.{Answer}
-use Rattle.life.specs.Answers as ans
-use Rattle.board.specs.Answers.{Said, one, each}
+use Rattle.channel_core.specs.Answers.{isFrame}
+use Rattle.board.specs.Answers.{BoardAnswer, one, each, refuses}
 use Rattle.tally.specs.declared.Counts.{Counts}
 
--- "refusals": whether an answer is a refusal's number
-abbrev pub refusedAnswer : Answer → Bool
-refusedAnswer (ans.refused k) = true
-refusedAnswer ans.done = false
-refusedAnswer (ans.value v) = false
-refusedAnswer (ans.bit b) = false
-refusedAnswer (ans.frame f) = false
-refusedAnswer ans.none = false
-refusedAnswer ans.kept = false
-refusedAnswer ans.lost = false
-refusedAnswer ans.unsolicited = false
-refusedAnswer (ans.part s) = false
-refusedAnswer (ans.partLength k) = false
-
--- "frames": whether a tick's answer for one channel is a frame
-abbrev pub frameAnswer : Answer → Bool
-frameAnswer (ans.refused k) = false
-frameAnswer ans.done = false
-frameAnswer (ans.value v) = false
-frameAnswer (ans.bit b) = false
-frameAnswer (ans.frame f) = true
-frameAnswer ans.none = false
-frameAnswer ans.kept = false
-frameAnswer ans.lost = false
-frameAnswer ans.unsolicited = false
-frameAnswer (ans.part s) = false
-frameAnswer (ans.partLength k) = false
-
-abbrev pub refuses : Said → Bool
-refuses (one a) = refusedAnswer a
-refuses (each a b c d) = false
-
 -- whether a tick answered a frame for channel 1, 2, 3, 4
-abbrev pub firstSends : Said → Bool
+abbrev pub firstSends : BoardAnswer → Bool
 firstSends (one a) = false
-firstSends (each a b c d) = frameAnswer a
+firstSends (each a b c d) = isFrame a
 
-abbrev pub secondSends : Said → Bool
+abbrev pub secondSends : BoardAnswer → Bool
 secondSends (one a) = false
-secondSends (each a b c d) = frameAnswer b
+secondSends (each a b c d) = isFrame b
 
-abbrev pub thirdSends : Said → Bool
+abbrev pub thirdSends : BoardAnswer → Bool
 thirdSends (one a) = false
-thirdSends (each a b c d) = frameAnswer c
+thirdSends (each a b c d) = isFrame c
 
-abbrev pub fourthSends : Said → Bool
+abbrev pub fourthSends : BoardAnswer → Bool
 fourthSends (one a) = false
-fourthSends (each a b c d) = frameAnswer d
+fourthSends (each a b c d) = isFrame d
 
 -- one more where the test holds. A count stays at 2^32 − 1; no run file brings it there (proofs of run_file)
 abbrev pub more : Bool → ℕ → ℕ
@@ -65,7 +32,7 @@ abbrev pub nothingYet : Counts
 nothingYet = record { steps = 0; refused = 0; first = 0; second = 0; third = 0; fourth = 0 }
 
 -- one answer counted
-unfoldable pub tally : Counts → Said → Counts
+unfoldable pub tally : Counts → BoardAnswer → Counts
 tally c x =
     record {
       steps = c .steps;
@@ -77,7 +44,7 @@ tally c x =
     }
 
 -- answers counted, in order
-unfoldable pub tallies : Counts → List Said → Counts
+unfoldable pub tallies : Counts → List BoardAnswer → Counts
 tallies c [] = c
 tallies c (x ∷ xs) = tallies (tally c x) xs
 

@@ -2,16 +2,16 @@
 use board::Frames;
 use channel::Outcome;
 use channel::Shown;
-use life::Line;
-use life::Receipt;
+use channel_core::Line;
+use channel_core::Receipt;
 use refusal::Refusal;
 ghost use mathlib.Core.Path.{_≡_};
 ghost use Rattle.refusal.specs.Refusals.{numberOf};
-ghost use Rattle.life.specs.Answers.{receiptOf, lineOf};
-ghost use Rattle.life.specs.Answers.{refused as Answers·refused};
+ghost use Rattle.channel_core.specs.Answers.{receiptOf, lineOf, isRefusal, isFrame};
+ghost use Rattle.channel_core.specs.Answers.{refused as Answers·refused};
 ghost use Rattle.channel.specs.Answers.{outcomeOf, shownOf};
 ghost use Rattle.board.specs.Answers.{one, framesOf};
-ghost use Rattle.tally.specs.Tallies.{refusedAnswer, frameAnswer, nothingYet, tally};
+ghost use Rattle.tally.specs.Tallies.{nothingYet, tally};
 ghost use Rattle.tally.specs.Tallies.{more as Tallies·more, stepped as Tallies·stepped};
 
 pub struct Counts {
@@ -43,7 +43,7 @@ fn more(test: bool, n: u32) -> u32
 }
 
 fn is_refused_outcome(x: Outcome) -> bool
-    ensures { λ r. ⌜ r ≡ refusedAnswer (outcomeOf x) ⌝ }
+    ensures { λ r. ⌜ r ≡ isRefusal (outcomeOf x) ⌝ }
 {
     match x {
         Outcome::Done => false,
@@ -52,7 +52,7 @@ fn is_refused_outcome(x: Outcome) -> bool
 }
 
 fn is_refused_read(x: Shown) -> bool
-    ensures { λ r. ⌜ r ≡ refusedAnswer (shownOf x) ⌝ }
+    ensures { λ r. ⌜ r ≡ isRefusal (shownOf x) ⌝ }
 {
     match x {
         Shown::Value(_) => false,
@@ -61,7 +61,7 @@ fn is_refused_read(x: Shown) -> bool
 }
 
 fn is_refused_reply(x: Receipt) -> bool
-    ensures { λ r. ⌜ r ≡ refusedAnswer (receiptOf x) ⌝ }
+    ensures { λ r. ⌜ r ≡ isRefusal (receiptOf x) ⌝ }
 {
     match x {
         Receipt::Kept => false,
@@ -72,7 +72,7 @@ fn is_refused_reply(x: Receipt) -> bool
 }
 
 fn is_frame(x: Line) -> bool
-    ensures { λ r. ⌜ r ≡ frameAnswer (lineOf x) ⌝ }
+    ensures { λ r. ⌜ r ≡ isFrame (lineOf x) ⌝ }
 {
     match x {
         Line::Silent => false,

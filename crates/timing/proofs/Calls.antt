@@ -13,27 +13,27 @@ use Rattle.sequencer.specs.declared.Stage.the-variants as stage
 use Rattle.sequencer.specs.Playing.{isIdle}
 use Rattle.sequencer.specs.Playing as seq
 use Rattle.sequencer.proofs.Moves.{resume-ignored}
-use Rattle.life.specs.declared.Channel.{Channel}
-use Rattle.life.specs.State.{withSequencer, happened}
-use Rattle.life.specs.Life.{started, groupEnded, endedIf, startedIf, resumedIf, resumedOn, eventOf, eventWords, commanded, commandWords}
+use Rattle.channel_core.specs.declared.Channel.{Channel}
+use Rattle.channel_core.specs.State.{withSequencer, conditionLatched}
+use Rattle.channel_core.specs.Behaviour.{started, groupEnded, endedIf, startedIf, resumedIf, resumedOn, eventOf, eventWords, commanded, commandWords}
 use Rattle.channel.specs.Calls.{registerRefusal, registerEffect, registerWords}
-use Rattle.channel.specs.Alone.{Alone, refusalOf, effect, move, withReadbacks}
+use Rattle.channel.specs.OneChannel.{OneChannel, refusalOf, effect, transition, withReadbacks}
 use Rattle.timing.specs.Timing.{command, eventCall}
 
 pub clash : {A : Type 0} → true ≡ false → A
 clash e = absurd (let z : _≡_ {A = ℕ} 0 1 = cc in omega arith)
 
-pub command-move : (o : Alone) (value : ℕ)
-    → move o (command o value)
+pub command-transition : (o : OneChannel) (value : ℕ)
+    → transition o (command o value)
     ≡ withReadbacks o (commanded (o .channel) value) (commandWords (o .channel) (o .readbacks) (o .m) value)
-unfolding move refusalOf effect registerRefusal registerEffect registerWords channelAccess
-command-move o value = rw (eq-eqb (o .m * 8) (o .m * 8) refl)
+unfolding transition refusalOf effect registerRefusal registerEffect registerWords channelAccess
+command-transition o value = rw (eq-eqb (o .m * 8) (o .m * 8) refl)
 
-pub event-move : (o : Alone) (code : ℕ)
-    → move o (eventCall o code)
+pub event-transition : (o : OneChannel) (code : ℕ)
+    → transition o (eventCall o code)
     ≡ withReadbacks o (eventOf (o .channel) (o .user) code) (eventWords (o .channel) (o .readbacks) (o .m) code)
-unfolding move refusalOf effect
-event-move o code = rw (eq-eqb (o .m * 8) (o .m * 8) refl)
+unfolding transition refusalOf effect
+event-transition o code = rw (eq-eqb (o .m * 8) (o .m * 8) refl)
 
 -- ---- Resumes
 
@@ -102,7 +102,7 @@ event-starts c user code armed on =
 -- ---- What Start and resumes leave
 
 started-registers : (c : Channel) (delay : ℕ) (armed idle : Bool)
-    → cond armed (withSequencer (cond idle (happened c run) c) (seq.started (c .sequencer) delay)) c .registers ≡ c .registers
+    → cond armed (withSequencer (cond idle (conditionLatched c run) c) (seq.started (c .sequencer) delay)) c .registers ≡ c .registers
 started-registers c delay true true = refl
 started-registers c delay true false = refl
 started-registers c delay false idle = refl

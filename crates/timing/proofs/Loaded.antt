@@ -15,12 +15,12 @@ use Rattle.readback.specs.declared.Disposition.the-variants as disposition
 use Rattle.status.specs.Bits.{bitAt}
 use Rattle.frame.specs.Frames.{Reading, crcRight}
 use Rattle.frame.specs.Frames as frame
-use Rattle.life.specs.declared.Channel.{Channel}
-use Rattle.life.specs.State.{opened, reset}
-use Rattle.life.specs.Life as life
+use Rattle.channel_core.specs.declared.Channel.{Channel}
+use Rattle.channel_core.specs.State.{opened, reset}
+use Rattle.channel_core.specs.Behaviour as core
 use Rattle.channel.specs.Calls as calls
-use Rattle.channel.specs.Alone.{Alone, ChannelCall, refusalOf, effect, move, moves, alone}
-use Rattle.channel.specs.Alone as call
+use Rattle.channel.specs.OneChannel.{OneChannel, ChannelCall, refusalOf, effect, transition, transitions, oneChannel}
+use Rattle.channel.specs.OneChannel as call
 use Rattle.timing.specs.Ticking.{period}
 use Rattle.timing.specs.Timing as the
 use Rattle.timing.proofs.Calls.{clash}
@@ -96,27 +96,27 @@ either false a b h k = k
 idle : {A : Type 0} (s : Sequencer) → s .stage ≡ stage.Idle → isIdle (s .stage) ≡ false → A
 idle s e x = clash (sym (ap isIdle e) ∙ x)
 
-live-ended : (on : Bool) (c : Channel) → LiveIn c → LiveIn (life.endedIf on c)
-unfolding life.endedIf life.groupEnded seq.groupEnded
+live-ended : (on : Bool) (c : Channel) → LiveIn c → LiveIn (core.endedIf on c)
+unfolding core.endedIf core.groupEnded seq.groupEnded
 live-ended true c h = idle (seq.groupEnded (c .sequencer)) refl
 live-ended false c h = h
 
-live-starts : (on : Bool) (c : Channel) (d : ℕ) → LiveIn c → LiveIn (life.startedIf on c d)
-unfolding life.startedIf life.started
+live-starts : (on : Bool) (c : Channel) (d : ℕ) → LiveIn c → LiveIn (core.startedIf on c d)
+unfolding core.startedIf core.started
 live-starts true c d h = either (c .sequencer .armed) _ c (live-started (c .sequencer) d) h
 live-starts false c d h = h
 
-live-resumes : (on : Bool) (c : Channel) (k d : ℕ) → LiveIn c → LiveIn (life.resumedIf on c k d)
-unfolding life.resumedIf
+live-resumes : (on : Bool) (c : Channel) (k d : ℕ) → LiveIn c → LiveIn (core.resumedIf on c k d)
+unfolding core.resumedIf
 live-resumes true c k d h = live-resumed (c .sequencer) k d h
 live-resumes false c k d h = h
 
-live-commanded : (c : Channel) (value : ℕ) → LiveIn c → LiveIn (life.commanded c value)
-unfolding life.commanded
+live-commanded : (c : Channel) (value : ℕ) → LiveIn c → LiveIn (core.commanded c value)
+unfolding core.commanded
 live-commanded c value h = live-resumes _ _ 0 0 (live-starts _ _ 0 (live-ended _ c h))
 
-live-event : (c : Channel) (user code : ℕ) → LiveIn c → LiveIn (life.eventOf c user code)
-unfolding life.eventOf life.resumedOn
+live-event : (c : Channel) (user code : ℕ) → LiveIn c → LiveIn (core.eventOf c user code)
+unfolding core.eventOf core.resumedOn
 live-event c user code h =
     live-resumes _ _ 4 _ (live-resumes _ _ 3 _ (live-resumes _ _ 2 _ (live-resumes _ _ 1 _ (live-starts _ _ _ (live-ended _ c h)))))
 
@@ -135,26 +135,26 @@ live-main : (c : Channel) (offset : ℕ) → LiveIn c → LiveIn (call.mainRead 
 unfolding calls.mainTaken
 live-main c offset h = either (eqb offset 0x28) _ _ h (either (eqb offset 0x2a) _ _ h h)
 
-live-fate : (d : Disposition) (c : Channel) (m : ℕ) (right : Bool) → LiveIn c → LiveIn (life.fateChannel d c m right)
+live-disposition : (d : Disposition) (c : Channel) (m : ℕ) (right : Bool) → LiveIn c → LiveIn (core.receivedChannel d c m right)
 unfolding seq.answered
-live-fate disposition.Unsolicited c m right h = h
-live-fate disposition.Lost c m right h = h
-live-fate disposition.Kept c m right h = h
+live-disposition disposition.Unsolicited c m right h = h
+live-disposition disposition.Lost c m right h = h
+live-disposition disposition.Kept c m right h = h
 
-live-reading : (x : Reading) (c : Channel) (m : ℕ) → LiveIn c → LiveIn (life.replyAs x c m)
+live-reading : (x : Reading) (c : Channel) (m : ℕ) → LiveIn c → LiveIn (core.replyAs x c m)
 live-reading (frame.refused k) c m h = h
-live-reading (frame.fields id word aux crc) c m h = live-fate (life.fateOf c m) c m (crcRight id word aux crc) h
+live-reading (frame.fields id word aux crc) c m h = live-disposition (core.dispositionNow c m) c m (crcRight id word aux crc) h
 
-abbrev LiveOf : Alone → Type 0
+abbrev LiveOf : OneChannel → Type 0
 LiveOf o = LiveIn (o .channel)
 
-live-user : (o : Alone) (user : ℕ) (e : Bool) → LiveOf o → LiveOf (cond e o (call.withUser o user (life.userChanged (o .channel))))
-unfolding life.userChanged seq.idled
+live-user : (o : OneChannel) (user : ℕ) (e : Bool) → LiveOf o → LiveOf (cond e o (call.withUser o user (core.userChanged (o .channel))))
+unfolding core.userChanged seq.idled
 live-user o user true h = h
 live-user o user false h = idle (seq.idled (o .channel .sequencer)) refl
 
-live-effect : (o : Alone) (k : ChannelCall) → LiveOf o → LiveOf (effect o k)
-unfolding effect calls.armedOf calls.disarmedOf seq.armed seq.disarmed life.tickOf life.replyOf
+live-effect : (o : OneChannel) (k : ChannelCall) → LiveOf o → LiveOf (effect o k)
+unfolding effect calls.armedOf calls.disarmedOf seq.armed seq.disarmed core.tickOf core.replyOf
 live-effect o (call.writeRegister lent offset value) h = live-written (o .channel) offset value h
 live-effect o (call.readRegister offset) h = live-read (o .channel) offset h
 live-effect o (call.writeSetpoint lent user buffer index word) h = h
@@ -164,24 +164,24 @@ live-effect o (call.reply lent f) h = live-reading (frame.read f) (o .channel) (
 live-effect o (call.retired one two) h = h
 live-effect o (call.retiredLength one two) h = h
 live-effect o (call.tick lent) h =
-    live-ticked (life.dueOf (o .channel) (o .setpoints) (o .n) (o .user)) (o .n) (period o) (period-some o) (o .channel .sequencer) h
+    live-ticked (core.dueOf (o .channel) (o .setpoints) (o .n) (o .user)) (o .n) (period o) (period-some o) (o .channel .sequencer) h
 live-effect o (call.event lent code) h = live-event (o .channel) (o .user) code h
 live-effect o (call.changeUser user) h = live-user o user (eqb user (o .user)) h
 live-effect o (call.writeMain lent offset value) h = h
 live-effect o (call.readMain offset) h = live-main (o .channel) offset h
 
-live-move : (o : Alone) (k : ChannelCall) → LiveOf o → LiveOf (move o k)
-unfolding move
-live-move o k h = go (eqb (refusalOf o k) 0)
+live-transition : (o : OneChannel) (k : ChannelCall) → LiveOf o → LiveOf (transition o k)
+unfolding transition
+live-transition o k h = go (eqb (refusalOf o k) 0)
   where
     go : (e : Bool) → LiveOf (cond e (effect o k) o)
     go true = live-effect o k h
     go false = h
 
-live-moves : (o : Alone) (ks : List ChannelCall) → LiveOf o → LiveOf (moves o ks)
-live-moves o [] h = h
-live-moves o (k ∷ ks) h = live-moves (move o k) ks (live-move o k h)
+live-transitions : (o : OneChannel) (ks : List ChannelCall) → LiveOf o → LiveOf (transitions o ks)
+live-transitions o [] h = h
+live-transitions o (k ∷ ks) h = live-transitions (transition o k) ks (live-transition o k h)
 
 pub loaded : the.Loaded
 unfolding opened
-loaded n m s r ks = live-moves (alone n m s r) ks (idle seq.opened refl)
+loaded n m s r ks = live-transitions (oneChannel n m s r) ks (idle seq.opened refl)

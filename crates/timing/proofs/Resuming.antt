@@ -17,28 +17,28 @@ use Rattle.sequencer.specs.Runs.{next, ticks}
 use Rattle.sequencer.proofs.Steps.{repeating-same}
 use Rattle.sequencer.proofs.Laws as laws
 use Rattle.sequencer.proofs.Moves.{resume-taken}
-use Rattle.life.specs.declared.Channel.{Channel}
-use Rattle.life.specs.State.{withSequencer}
-use Rattle.life.specs.Life.{sendFrame, endedIf, endedWords, startedIf, resumedIf, resumedOn, eventOf, eventWords, commanded, commandWords}
-use Rattle.channel.specs.Alone.{Alone, move, withChannel}
+use Rattle.channel_core.specs.declared.Channel.{Channel}
+use Rattle.channel_core.specs.State.{withSequencer}
+use Rattle.channel_core.specs.Behaviour.{sendFrame, endedIf, endedWords, startedIf, resumedIf, resumedOn, eventOf, eventWords, commanded, commandWords}
+use Rattle.channel.specs.OneChannel.{OneChannel, transition, withChannel}
 use Rattle.timing.specs.Ticking.{wordAt, period, Resumes}
-use Rattle.timing.specs.Timing.{command, eventCall, hears, delay, OnlyResumes, OnlyD1}
+use Rattle.timing.specs.Timing.{command, eventCall, triggeredBy, delay, OnlyResumes, OnlyD1}
 use Rattle.timing.specs.Timing as the
 use Rattle.timing.proofs.Bridge.{after-with, on-tick, sent-after, repeat}
-use Rattle.timing.proofs.Calls.{command-move, event-move, resume-nothing, resumes-nothing}
+use Rattle.timing.proofs.Calls.{command-transition, event-transition, resume-nothing, resumes-nothing}
 use Rattle.timing.proofs.Series.{period-some}
 
 -- ---- An event or command that resumes alone
 
-event-resumes : (o : Alone) (code : ℕ) → OnlyResumes o code
-    → move o (eventCall o code) ≡ withChannel o (resumedOn (o .channel .registers) (o .channel) (o .user) code)
+event-resumes : (o : OneChannel) (code : ℕ) → OnlyResumes o code
+    → transition o (eventCall o code) ≡ withChannel o (resumedOn (o .channel .registers) (o .channel) (o .user) code)
 unfolding eventOf eventWords endedIf endedWords startedIf
-event-resumes o code only = event-move o code ∙ rw (only .0) (rw (only .1))
+event-resumes o code only = event-transition o code ∙ rw (only .0) (rw (only .1))
 
-command-resumes : (o : Alone) (value : ℕ) → OnlyD1 value
-    → move o (command o value) ≡ withChannel o (resumedIf (bitAt value 1) (o .channel) 0 0)
+command-resumes : (o : OneChannel) (value : ℕ) → OnlyD1 value
+    → transition o (command o value) ≡ withChannel o (resumedIf (bitAt value 1) (o .channel) 0 0)
 unfolding commanded commandWords endedIf endedWords startedIf
-command-resumes o value only = command-move o value ∙ rw (only .0) (rw (only .1))
+command-resumes o value only = command-transition o value ∙ rw (only .0) (rw (only .1))
 
 -- ---- Resumes that change nothing
 
@@ -49,20 +49,20 @@ apart j k a b differ = absurd (differ (cc))
 not-resuming : {A : Type 0} {g : Stage} (k : ℕ) → g ≡ stage.Resuming → g ≡ stage.Paused k → A
 not-resuming k a b = absurd (let z : _≡_ {A = ℕ} 0 1 = cc in omega arith)
 
-ignored : (o : Alone) (code : ℕ) → OnlyResumes o code
-    → ((k : ℕ) → o .channel .sequencer .stage ≡ stage.Paused k → hears o k code ≡ false)
-    → move o (eventCall o code) ≡ o
+ignored : (o : OneChannel) (code : ℕ) → OnlyResumes o code
+    → ((k : ℕ) → o .channel .sequencer .stage ≡ stage.Paused k → triggeredBy o k code ≡ false)
+    → transition o (eventCall o code) ≡ o
 ignored o code only h =
     event-resumes o code only ∙ ap (withChannel o) (resumes-nothing (o .channel .registers) (o .channel) (o .user) code h)
 
-ignored-command : (o : Alone) (value : ℕ) → OnlyD1 value → (o .channel .sequencer .stage ≡ stage.Paused 0 → bitAt value 1 ≡ false)
-    → move o (command o value) ≡ o
+ignored-command : (o : OneChannel) (value : ℕ) → OnlyD1 value → (o .channel .sequencer .stage ≡ stage.Paused 0 → bitAt value 1 ≡ false)
+    → transition o (command o value) ≡ o
 ignored-command o value only h =
     command-resumes o value only ∙ ap (withChannel o) (resume-nothing (bitAt value 1) (o .channel) 0 0 h)
 
 pub other-pause : the.OtherPause
 other-pause o code j only at off =
-    ignored o code only (λ k e. ap (λ (x : ℕ). hears o x code) (let same : k ≡ j = cc in same) ∙ off)
+    ignored o code only (λ k e. ap (λ (x : ℕ). triggeredBy o x code) (let same : k ≡ j = cc in same) ∙ off)
 
 -- register 0 is Start's
 pub vme-pause : the.VmePause
@@ -151,7 +151,7 @@ module _ (words : ℕ → ℕ) (n p : ℕ) where
       let f : t .resume - 1 ≡ d + 10 - suc j = omega (arith, k .1) in
       (ap (λ (x : Ticked). x .sequencer .stage) e ∙ v .0 ∙ k .0, ap (λ (x : Ticked). x .sequencer .resume) e ∙ v .1 ∙ f)
 
-resumes : (o : Alone) (k d : ℕ) → o .channel .sequencer .stage ≡ stage.Paused k → 1 ≤ o .channel .sequencer .left
+resumes : (o : OneChannel) (k d : ℕ) → o .channel .sequencer .stage ≡ stage.Paused k → 1 ≤ o .channel .sequencer .left
     → Resumes o (withChannel o (loaded (o .channel) k d)) d
 resumes o k d at some =
     let q = o .channel .sequencer in
@@ -163,7 +163,7 @@ resumes o k d at some =
       sent = on-tick r (d + 10) (omega arith) ∙ ap (sendFrame (o .channel .registers)) (l .2);
       done = sent-after r (d + 10) (q .index) (l .3);
       under-way = λ j h.
-          ap (λ (x : Alone). x .channel .sequencer .stage) (after-with r j)
+          ap (λ (x : OneChannel). x .channel .sequencer .stage) (after-with r j)
           ∙ ap (λ (s : Sequencer). ticks (wordAt o) (o .n) (period o) s j .stage) (resume-taken q k d at)
           ∙ way (wordAt o) (o .n) (period o) q d j h .0;
     }
@@ -171,12 +171,12 @@ resumes o k d at some =
 pub resume-by-event : the.ResumeByEvent
 resume-by-event o code k only low high on at some =
     let r = o .channel .registers in
-    subst (λ (p : Alone). Resumes o p (delay o k))
+    subst (λ (p : OneChannel). Resumes o p (delay o k))
     (sym (event-resumes o code only ∙ ap (withChannel o) (taken r (o .channel) (o .user) code k low high on at)))
     (resumes o k (delay o k) at some)
 
 pub resume-by-command : the.ResumeByCommand
 resume-by-command o value only on at some =
-    subst (λ (p : Alone). Resumes o p 0)
+    subst (λ (p : OneChannel). Resumes o p 0)
     (sym (command-resumes o value only ∙ ap (withChannel o) (command-taken (o .channel) (bitAt value 1) on)))
     (resumes o 0 0 at some)

@@ -16,7 +16,7 @@ use Rattle.sequencer.specs.Playing.{repeating, repeated, quiet, withLeft}
 use Rattle.sequencer.specs.Runs.{ticks, kindAt, holds}
 use Rattle.sequencer.proofs.Steps.{hold-turn, repeating-same}
 use Rattle.sequencer.proofs.Laws as laws
-use Rattle.channel.specs.Alone.{Alone}
+use Rattle.channel.specs.OneChannel.{OneChannel}
 use Rattle.timing.specs.Ticking.{after, wordAt, period, frameOf, played, Keeps, Sent, NextFrame, Still}
 use Rattle.timing.specs.Timing as the
 use Rattle.timing.proofs.Bridge.{next-frame, repeat, after-keeps, after-add, on-tick-add, after-with}
@@ -27,7 +27,7 @@ some-if false true c = omega arith
 some-if false false true = omega arith
 some-if false false false = omega arith
 
-pub period-some : (o : Alone) → 1 ≤ period o
+pub period-some : (o : OneChannel) → 1 ≤ period o
 period-some o =
     let clock = o .channel .registers .clock in
     some-if (eqb clock 0) (eqb clock 1) (eqb clock 2)
@@ -44,7 +44,7 @@ countdown o h some =
     next-frame o (q .left) (q .index) some (laws.countdown (wordAt o) (o .n) (period o) q h some)
 
 -- what is kept keeps words, period and frames
-module _ {o p : Alone} (k : Keeps o p) where
+module _ {o p : OneChannel} (k : Keeps o p) where
   pub same-word : (i : ℕ) → wordAt p i ≡ wordAt o i
   same-word i = cc
 
@@ -58,7 +58,7 @@ module _ {o p : Alone} (k : Keeps o p) where
   same-kind i = ap₂ (λ (w n : ℕ). kindOf w (atEnd n i)) (same-word i) (k .same-n)
 
 -- the next of plain words, x ticks from now
-next-at : (o : Alone) (i x : ℕ) → Sent (after o x) i → kindAt (wordAt o) (o .n) i ≡ kind.Plain
+next-at : (o : OneChannel) (i x : ℕ) → Sent (after o x) i → kindAt (wordAt o) (o .n) i ≡ kind.Plain
     → NextFrame (after o x) (period o) (i + 1)
 next-at o i x sent plain =
     let k = after-keeps o x in
@@ -66,7 +66,7 @@ next-at o i x sent plain =
     (plain-next (after o x) i sent (same-kind k i ∙ plain))
 
 -- h plain words later
-sent-later : (o : Alone) (i h : ℕ) → Sent o i → ((g : ℕ) → g < h → kindAt (wordAt o) (o .n) (i + g) ≡ kind.Plain)
+sent-later : (o : OneChannel) (i h : ℕ) → Sent o i → ((g : ℕ) → g < h → kindAt (wordAt o) (o .n) (i + g) ≡ kind.Plain)
     → Sent (after o (h * period o)) (i + h)
 unfolding after
 sent-later o i zero sent plain =
@@ -102,7 +102,7 @@ pub left-repeating : (s : Sequencer) (p : ℕ) → 1 ≤ p → 1 ≤ repeating s
 unfolding repeating repeated
 left-repeating s p some = left-if s (repeated s p) some (leb (s .left) 1) refl
 
-still : (o : Alone) → holds (o .channel .sequencer .stage) ≡ true → 1 ≤ o .channel .sequencer .left → (j : ℕ)
+still : (o : OneChannel) → holds (o .channel .sequencer .stage) ≡ true → 1 ≤ o .channel .sequencer .left → (j : ℕ)
     → (s : Sequencer) → s ≡ played o j
     → (s .stage ≡ o .channel .sequencer .stage) × (s .index ≡ o .channel .sequencer .index)
     × (s .word ≡ o .channel .sequencer .word) × (1 ≤ s .left)

@@ -8,15 +8,15 @@ use Rattle.sequencer.specs.declared.Sequencer.{Sequencer}
 use Rattle.sequencer.specs.Playing as seq
 use Rattle.sequencer.specs.Runs.{Leaves}
 use Rattle.sequencer.proofs.Laws as laws
-use Rattle.life.specs.Life.{endedIf}
-use Rattle.channel.specs.Alone.{Alone, move}
+use Rattle.channel_core.specs.Behaviour.{endedIf}
+use Rattle.channel.specs.OneChannel.{OneChannel, transition}
 use Rattle.timing.specs.Ticking.{wordAt, period, Keeps, NextFrame}
-use Rattle.timing.specs.Timing.{command, eventCall, hears, delay}
+use Rattle.timing.specs.Timing.{command, eventCall, triggeredBy, delay}
 use Rattle.timing.specs.Timing as the
 use Rattle.timing.proofs.Bridge.{next-frame}
-use Rattle.timing.proofs.Calls.{command-move, event-move, command-starts, event-starts, command-registers, event-registers}
+use Rattle.timing.proofs.Calls.{command-transition, event-transition, command-starts, event-starts, command-registers, event-registers}
 
-start-frame : (o : Alone) (s : Sequencer) (d : ℕ) → o .channel .sequencer ≡ seq.started s d → NextFrame o (d + 10) 0
+start-frame : (o : OneChannel) (s : Sequencer) (d : ℕ) → o .channel .sequencer ≡ seq.started s d → NextFrame o (d + 10) 0
 start-frame o s d e =
     next-frame o (d + 10) 0 (omega arith)
     (subst (λ (q : Sequencer). Leaves (wordAt o) (o .n) (period o) q (d + 10) 0) (sym e)
@@ -25,19 +25,19 @@ start-frame o s d e =
 pub start-by-command : the.StartByCommand
 start-by-command o value armed on =
     let c = o .channel in
-    start-frame (move o (command o value)) (endedIf (bitAt value 2) c .sequencer) 0
-    (ap (λ (p : Alone). p .channel .sequencer) (command-move o value) ∙ command-starts c value armed on)
+    start-frame (transition o (command o value)) (endedIf (bitAt value 2) c .sequencer) 0
+    (ap (λ (p : OneChannel). p .channel .sequencer) (command-transition o value) ∙ command-starts c value armed on)
 
 pub start-by-event : the.StartByEvent
 start-by-event o code armed on =
     let c = o .channel in
-    start-frame (move o (eventCall o code)) (endedIf (hears o groupEndEvent code) c .sequencer) (delay o 0)
-    (ap (λ (p : Alone). p .channel .sequencer) (event-move o code) ∙ event-starts c (o .user) code armed on)
+    start-frame (transition o (eventCall o code)) (endedIf (triggeredBy o groupEndEvent code) c .sequencer) (delay o 0)
+    (ap (λ (p : OneChannel). p .channel .sequencer) (event-transition o code) ∙ event-starts c (o .user) code armed on)
 
 pub start-keeps : the.StartKeeps
 start-keeps o = (
   λ value off.
-      subst (Keeps o) (sym (command-move o value))
+      subst (Keeps o) (sym (command-transition o value))
       record {
         same-n = refl;
         same-m = refl;
@@ -46,7 +46,7 @@ start-keeps o = (
         same-setpoints = refl;
       },
   λ code off.
-      subst (Keeps o) (sym (event-move o code))
+      subst (Keeps o) (sym (event-transition o code))
       record {
         same-n = refl;
         same-m = refl;

@@ -9,26 +9,26 @@ use Rattle.sequencer.specs.declared.Kind.the-variants as kind
 use Rattle.sequencer.specs.declared.Stage.the-variants as stage
 use Rattle.sequencer.specs.Playing.{isIdle}
 use Rattle.sequencer.specs.Runs.{kindAt, advances, holds}
-use Rattle.life.specs.Answers as ans
-use Rattle.life.specs.State.{withStatus, withSequencer}
-use Rattle.life.specs.Life.{sendFrame}
-use Rattle.channel.specs.Alone.{Alone, ChannelCall, writeRegister, event, move, moves, alone, withChannel}
+use Rattle.channel_core.specs.Answers as ans
+use Rattle.channel_core.specs.State.{withStatus, withSequencer}
+use Rattle.channel_core.specs.Behaviour.{sendFrame}
+use Rattle.channel.specs.OneChannel.{OneChannel, ChannelCall, writeRegister, event, transition, transitions, oneChannel, withChannel}
 use Rattle.timing.specs.Ticking.{after, onTick, wordAt, period, frameOf, played, plays, Keeps, Sent, NextFrame, Repeat, KeptRepeat, Resumes, Still}
 
 -- ---- The two calls that start and resume, each lent memory of the right length
 
-abbrev pub command : Alone → ℕ → ChannelCall
+abbrev pub command : OneChannel → ℕ → ChannelCall
 command o value = writeRegister (o .m * 8) 0x08 value
 
-abbrev pub eventCall : Alone → ℕ → ChannelCall
+abbrev pub eventCall : OneChannel → ℕ → ChannelCall
 eventCall o code = event (o .m * 8) code
 
 -- whether register 0 (Start), 1 to 4 (Resume) or 5 (Group End) has this code, and is active
-abbrev pub hears : Alone → ℕ → ℕ → Bool
-hears o register code = triggersOf (o .channel .registers) register code
+abbrev pub triggeredBy : OneChannel → ℕ → ℕ → Bool
+triggeredBy o register code = triggersOf (o .channel .registers) register code
 
 -- the current user's start delay (0), or that of Resume 1 to 4
-abbrev pub delay : Alone → ℕ → ℕ
+abbrev pub delay : OneChannel → ℕ → ℕ
 delay o bank = delayOf (o .channel .registers) bank (o .user)
 
 -- ---- A. Ticks
@@ -37,14 +37,14 @@ delay o bank = delayOf (o .channel .registers) bank (o .user)
 -- answers none where it transmits nothing, else the frame of its word
 abbrev pub Bridge : Type 0
 Bridge =
-    (o : Alone) (k : ℕ)
+    (o : OneChannel) (k : ℕ)
     → (after o k ≡ withChannel o (withSequencer (withStatus (o .channel) (after o k .channel .status)) (played o k)))
     × (onTick o (k + 1) ≡ sendFrame (o .channel .registers) (plays o (k + 1)))
 
 -- so tick k + j from now is tick j after k ticks
 abbrev pub LaterTicks : Type 0
 LaterTicks =
-    (o : Alone) (k : ℕ) → Keeps o (after o k) × ((j : ℕ) → 1 ≤ j → onTick o (k + j) ≡ onTick (after o k) j)
+    (o : OneChannel) (k : ℕ) → Keeps o (after o k) × ((j : ℕ) → 1 ≤ j → onTick o (k + j) ≡ onTick (after o k) j)
 
 -- ---- B. Start: "It loads the current user's start delay (0 for a command) plus 10. The first setpoint leaves on the tick that brings the
 -- count to 0."
@@ -52,110 +52,110 @@ LaterTicks =
 -- by Commands D0, whatever the other bits
 abbrev pub StartByCommand : Type 0
 StartByCommand =
-    (o : Alone) (value : ℕ) → o .channel .sequencer .armed ≡ true → bitAt value 0 ≡ true
-    → NextFrame (move o (command o value)) 10 0
+    (o : OneChannel) (value : ℕ) → o .channel .sequencer .armed ≡ true → bitAt value 0 ≡ true
+    → NextFrame (transition o (command o value)) 10 0
 
 -- by its event, whatever the other event registers
 abbrev pub StartByEvent : Type 0
 StartByEvent =
-    (o : Alone) (code : ℕ) → o .channel .sequencer .armed ≡ true → hears o startEvent code ≡ true
-    → NextFrame (move o (eventCall o code)) (delay o 0 + 10) 0
+    (o : OneChannel) (code : ℕ) → o .channel .sequencer .armed ≡ true → triggeredBy o startEvent code ≡ true
+    → NextFrame (transition o (eventCall o code)) (delay o 0 + 10) 0
 
 -- with no Group End, Frame ID and words of that frame are those from before the Start
 abbrev pub StartKeeps : Type 0
 StartKeeps =
-    (o : Alone)
-    → ((value : ℕ) → bitAt value 2 ≡ false → Keeps o (move o (command o value)))
-    × ((code : ℕ) → hears o groupEndEvent code ≡ false → Keeps o (move o (eventCall o code)))
+    (o : OneChannel)
+    → ((value : ℕ) → bitAt value 2 ≡ false → Keeps o (transition o (command o value)))
+    × ((code : ℕ) → triggeredBy o groupEndEvent code ≡ false → Keeps o (transition o (eventCall o code)))
 
 -- ---- C. Which word: "After a send the next follows one period later."
 
 -- starting or running: the word due leaves on the tick that brings the count to 0, whatever clock loaded it
 abbrev pub Countdown : Type 0
 Countdown =
-    (o : Alone) → advances (o .channel .sequencer .stage) ≡ true → 1 ≤ o .channel .sequencer .left
+    (o : OneChannel) → advances (o .channel .sequencer .stage) ≡ true → 1 ≤ o .channel .sequencer .left
     → NextFrame o (o .channel .sequencer .left) (o .channel .sequencer .index)
 
 abbrev pub PlainNext : Type 0
-PlainNext = (o : Alone) (i : ℕ) → Sent o i → kindAt (wordAt o) (o .n) i ≡ kind.Plain → NextFrame o (period o) (i + 1)
+PlainNext = (o : OneChannel) (i : ℕ) → Sent o i → kindAt (wordAt o) (o .n) i ≡ kind.Plain → NextFrame o (period o) (i + 1)
 
 -- so where the words from index i to i + h are plain, they follow each other by one period, and nothing leaves between
 abbrev pub Series : Type 0
 Series =
-    (o : Alone) (i h : ℕ) → Sent o i → ((g : ℕ) → g ≤ h → kindAt (wordAt o) (o .n) (i + g) ≡ kind.Plain)
+    (o : OneChannel) (i h : ℕ) → Sent o i → ((g : ℕ) → g ≤ h → kindAt (wordAt o) (o .n) (i + g) ≡ kind.Plain)
     → ((d : ℕ) → 1 ≤ d → d < period o → onTick o (h * period o + d) ≡ ans.none)
     × (onTick o (h * period o + period o) ≡ frameOf o (wordAt o (i + h + 1)))
 
 -- paused, or after the last word: the kept word on the beat, and nothing off it
 abbrev pub Held : Type 0
 Held =
-    (o : Alone) → holds (o .channel .sequencer .stage) ≡ true → 1 ≤ o .channel .sequencer .left
+    (o : OneChannel) → holds (o .channel .sequencer .stage) ≡ true → 1 ≤ o .channel .sequencer .left
     → (j : ℕ) → 1 ≤ j → KeptRepeat o j (onTick o j)
 
 -- and so it stays, till another call ends it
 abbrev pub HeldStays : Type 0
 HeldStays =
-    (o : Alone) → holds (o .channel .sequencer .stage) ≡ true → 1 ≤ o .channel .sequencer .left → (j : ℕ) → Still o (after o j)
+    (o : OneChannel) → holds (o .channel .sequencer .stage) ≡ true → 1 ≤ o .channel .sequencer .left → (j : ℕ) → Still o (after o j)
 
 -- so a word that was just sent and pauses, or is the last, leaves again each period
 abbrev pub HeldWord : Type 0
 HeldWord =
-    (o : Alone) (i : ℕ) → Sent o i → (kindAt (wordAt o) (o .n) i ≡ kind.Plain → ⊥)
+    (o : OneChannel) (i : ℕ) → Sent o i → (kindAt (wordAt o) (o .n) i ≡ kind.Plain → ⊥)
     → (j : ℕ) → 1 ≤ j → Repeat o (wordAt o i) (period o) j (onTick o j)
 
 -- ---- D. Resume: "Resume k (its event, for pause k) or Commands D1 (VME pause only) loads the current user's delay (0 for D1)."
 
 -- an event that is neither Group End nor Start, a command without D2 and D0
-abbrev pub OnlyResumes : Alone → ℕ → Type 0
-OnlyResumes o code = (hears o groupEndEvent code ≡ false) × (hears o startEvent code ≡ false)
+abbrev pub OnlyResumes : OneChannel → ℕ → Type 0
+OnlyResumes o code = (triggeredBy o groupEndEvent code ≡ false) × (triggeredBy o startEvent code ≡ false)
 
 abbrev pub OnlyD1 : ℕ → Type 0
 OnlyD1 value = (bitAt value 2 ≡ false) × (bitAt value 0 ≡ false)
 
 abbrev pub ResumeByEvent : Type 0
 ResumeByEvent =
-    (o : Alone) (code k : ℕ) → OnlyResumes o code → 1 ≤ k → k ≤ 4 → hears o k code ≡ true
+    (o : OneChannel) (code k : ℕ) → OnlyResumes o code → 1 ≤ k → k ≤ 4 → triggeredBy o k code ≡ true
     → o .channel .sequencer .stage ≡ stage.Paused k → 1 ≤ o .channel .sequencer .left
-    → Resumes o (move o (eventCall o code)) (delay o k)
+    → Resumes o (transition o (eventCall o code)) (delay o k)
 
 -- the VME pause is pause 0
 abbrev pub ResumeByCommand : Type 0
 ResumeByCommand =
-    (o : Alone) (value : ℕ) → OnlyD1 value → bitAt value 1 ≡ true
+    (o : OneChannel) (value : ℕ) → OnlyD1 value → bitAt value 1 ≡ true
     → o .channel .sequencer .stage ≡ stage.Paused 0 → 1 ≤ o .channel .sequencer .left
-    → Resumes o (move o (command o value)) 0
+    → Resumes o (transition o (command o value)) 0
 
 -- an event changes nothing in a pause whose own Resume register has another code (so Resume k never ends pause j), nor in the VME pause
 abbrev pub OtherPause : Type 0
 OtherPause =
-    (o : Alone) (code j : ℕ) → OnlyResumes o code → o .channel .sequencer .stage ≡ stage.Paused j → hears o j code ≡ false
-    → move o (eventCall o code) ≡ o
+    (o : OneChannel) (code j : ℕ) → OnlyResumes o code → o .channel .sequencer .stage ≡ stage.Paused j → triggeredBy o j code ≡ false
+    → transition o (eventCall o code) ≡ o
 
 abbrev pub VmePause : Type 0
 VmePause =
-    (o : Alone) (code : ℕ) → OnlyResumes o code → o .channel .sequencer .stage ≡ stage.Paused 0
-    → move o (eventCall o code) ≡ o
+    (o : OneChannel) (code : ℕ) → OnlyResumes o code → o .channel .sequencer .stage ≡ stage.Paused 0
+    → transition o (eventCall o code) ≡ o
 
 -- D1 changes nothing in pauses 1 to 4
 abbrev pub NotByD1 : Type 0
 NotByD1 =
-    (o : Alone) (value j : ℕ) → OnlyD1 value → o .channel .sequencer .stage ≡ stage.Paused j → 1 ≤ j
-    → move o (command o value) ≡ o
+    (o : OneChannel) (value j : ℕ) → OnlyD1 value → o .channel .sequencer .stage ≡ stage.Paused j → 1 ≤ j
+    → transition o (command o value) ≡ o
 
 -- "Further resumes are ignored meanwhile.": through the delay and the silent ticks (`under-way` of `Resumes`)
 abbrev pub Meanwhile : Type 0
 Meanwhile =
-    (o : Alone) → o .channel .sequencer .stage ≡ stage.Resuming
-    → ((code : ℕ) → OnlyResumes o code → move o (eventCall o code) ≡ o)
-    × ((value : ℕ) → OnlyD1 value → move o (command o value) ≡ o)
+    (o : OneChannel) → o .channel .sequencer .stage ≡ stage.Resuming
+    → ((code : ℕ) → OnlyResumes o code → transition o (eventCall o code) ≡ o)
+    × ((value : ℕ) → OnlyD1 value → transition o (command o value) ≡ o)
 
 -- ---- What the premises above ask of the countdown holds of every channel that calls lead to
 
 abbrev pub Loaded : Type 0
 Loaded =
     (n m : ℕ) (setpoints readbacks : List ℕ) (calls : List ChannelCall)
-    → isIdle (moves (alone n m setpoints readbacks) calls .channel .sequencer .stage) ≡ false
-    → 1 ≤ moves (alone n m setpoints readbacks) calls .channel .sequencer .left
+    → isIdle (transitions (oneChannel n m setpoints readbacks) calls .channel .sequencer .stage) ≡ false
+    → 1 ≤ transitions (oneChannel n m setpoints readbacks) calls .channel .sequencer .left
 
 -- ---- All of it
 

@@ -1,12 +1,12 @@
 -- `board::retired_length` meets its contract: by the tests on the way and the contracts of what it calls. Assumes nothing.
 use Prim.Native.Nat.{ℕ}
-use Rattle.board_state.specs.State.{chan}
+use Rattle.board_state.specs.State.{channelAt}
 use Rattle.board_state.specs.declared.Board.{Board}
 use Rattle.board.proofs.retired_length.Statement.{statement}
 use Rattle.board.specs.Calls.{retiredLength, retiredWords}
 use Rattle.channel.proofs.Ranges.{inside}
 use Rattle.channel.specs.Calls.{outside}
-use Rattle.life.specs.declared.Channel.{Channel}
+use Rattle.channel_core.specs.declared.Channel.{Channel}
 use borrow.Author.Needs.{needs}
 use borrow.Author.Tests.{eq-eqb, ne-eqb}
 use denote.Ref.{now}
@@ -21,7 +21,7 @@ use Rattle.board.proofs.retired_length.Tie as tie
 
 -- where the lengths and the channel are right, the board's answer is the channel's
 plain : (b : Board) (number : ℕ) (s t : List ℕ) → outside 1 4 number ≡ false → eqb (length s) (b .m) ≡ true → eqb (length t) (b .m) ≡ true
-    → one.retiredLength (chan b number) (b .m) s t ≡ retiredLength b number s t
+    → one.retiredLength (channelAt b number) (b .m) s t ≡ retiredLength b number s t
 unfolding retiredLength retiredWords one.retiredLength
 plain b number s t o e f = simp (o, e, f)
 

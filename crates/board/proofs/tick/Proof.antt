@@ -1,6 +1,6 @@
 -- `board::tick` meets its contract: by the tests on the way and the contracts of what it calls. Assumes nothing.
 use Rattle.board.proofs.tick.Statement.{statement}
-use Rattle.board.specs.Calls.{tickBoard, tickSaid}
+use Rattle.board.specs.Calls.{tickBoard, tickBoardAnswer}
 use borrow.Author.Needs.{needs}
 use borrow.Author.Tests.{eq-eqb, ne-eqb}
 use Rattle.board.proofs.tick.Tie as tie
@@ -12,7 +12,7 @@ mul-if1 : tie.Need-mul-if1
 mul-if1 c = search needs
 
 returns : tie.Need-returns
-unfolding tickBoard tickSaid
+unfolding tickBoard tickBoardAnswer
 returns c = (simp (ne-eqb _ _ (c .if1 .taken)), simp (ne-eqb _ _ (c .if1 .taken)))
 
 tick-channel-requires : tie.Need-tick-channel-requires
@@ -40,7 +40,7 @@ with-channel-requires-4 : tie.Need-with-channel-requires-4
 with-channel-requires-4 c κs = search needs
 
 returns-2 : tie.Need-returns-2
-unfolding tickBoard tickSaid
+unfolding tickBoard tickBoardAnswer
 returns-2 c = (simp (eq-eqb _ _ (c .before .before .before .before .before .before .before .before .before .before .before .before .if1 .left), c .with-channel4 .ensures, c .before .with-channel3 .ensures, c .before .before .with-channel2 .ensures, c .before .before .before .with-channel .ensures, c .before .before .before .before .before .before .before .before .tick-channel4 .ensures .0, c .before .before .before .before .before .before .before .before .before .tick-channel3 .ensures .0, c .before .before .before .before .before .before .before .before .before .before .tick-channel2 .ensures .0, c .before .before .before .before .before .before .before .before .before .before .before .tick-channel .ensures .0), simp (eq-eqb _ _ (c .before .before .before .before .before .before .before .before .before .before .before .before .if1 .left), c .before .before .before .before .before .before .before .before .tick-channel4 .ensures .1, c .before .before .before .before .before .before .before .before .before .tick-channel3 .ensures .1, c .before .before .before .before .before .before .before .before .before .before .tick-channel2 .ensures .1, c .before .before .before .before .before .before .before .before .before .before .before .tick-channel .ensures .1))
 
 pub tick-spec : {M : Type 1} → statement M

@@ -25,8 +25,8 @@ weigh-requires-4 c κs = search needs
 add-channels-3 : tie.Need-add-channels-3
 add-channels-3 c = search needs
 
-below-requires : tie.Need-below-requires
-below-requires c κs = search needs
+zero-based-requires : tie.Need-zero-based-requires
+zero-based-requires c κs = search needs
 
 cast-result : tie.Need-cast-result
 cast-result c = search needs
@@ -48,7 +48,7 @@ add-result-3 c = search needs
 
 returns : tie.Need-returns
 unfolding mainWord
-returns c = simp (c .weigh5 .ensures .0, c .before .below .ensures, c .before .before .weigh4 .ensures .0, c .before .before .before .weigh3 .ensures .0, c .before .before .before .before .weigh2 .ensures .0, c .before .before .before .before .before .weigh .ensures .0)
+returns c = simp (c .weigh5 .ensures .0, c .before .zero-based .ensures, c .before .before .weigh4 .ensures .0, c .before .before .before .weigh3 .ensures .0, c .before .before .before .before .weigh2 .ensures .0, c .before .before .before .before .before .weigh .ensures .0)
 
 pub main-word-spec : {M : Type 1} → statement M
 main-word-spec =
@@ -61,7 +61,7 @@ main-word-spec =
     add-channels-2
     weigh-requires-4
     add-channels-3
-    below-requires
+    zero-based-requires
     cast-result
     mul-result
     add-result

@@ -3,14 +3,14 @@ use borrow.Author.Needs.{needs}
 use Rattle.channel.proofs.active_buffer.Statement.{statement}
 use Rattle.channel.proofs.active_buffer.Tie as tie
 
-second-requires : tie.Need-second-requires
-second-requires c κs = search needs
+second-active-requires : tie.Need-second-active-requires
+second-active-requires c κs = search needs
 
 returns : tie.Need-returns
-returns c = rw (← c .before .second .ensures) (simp (c .if1 .taken))
+returns c = rw (← c .before .second-active .ensures) (simp (c .if1 .taken))
 
 returns-2 : tie.Need-returns-2
-returns-2 c = rw (← c .before .second .ensures) (simp (c .if1 .left))
+returns-2 c = rw (← c .before .second-active .ensures) (simp (c .if1 .left))
 
 pub active-buffer-spec : {M : Type 1} → statement M
-active-buffer-spec = tie.close (tie.spec second-requires returns returns-2)
+active-buffer-spec = tie.close (tie.spec second-active-requires returns returns-2)

@@ -9,24 +9,24 @@ returns : tie.Need-returns
 unfolding readValue
 returns c = simp (eq-eqb _ _ (c .if1 .taken))
 
-word-of-requires : tie.Need-word-of-requires
-word-of-requires c κs = search needs
+word-of-bits-requires : tie.Need-word-of-bits-requires
+word-of-bits-requires c κs = search needs
 
 returns-2 : tie.Need-returns-2
 unfolding readValue
 returns-2 c =
     let s = c .before .before .before in
-    simp (c .word-of .ensures, eq-eqb _ _ (s .if2 .taken), ne-eqb _ _ (s .before .if1 .left))
+    simp (c .word-of-bits .ensures, eq-eqb _ _ (s .if2 .taken), ne-eqb _ _ (s .before .if1 .left))
 
-word-of-requires-2 : tie.Need-word-of-requires-2
-word-of-requires-2 c κs = search needs
+word-of-bits-requires-2 : tie.Need-word-of-bits-requires-2
+word-of-bits-requires-2 c κs = search needs
 
 returns-3 : tie.Need-returns-3
 unfolding readValue
 returns-3 c =
     let s = c .before .before .before in
     simp (
-      c .word-of2 .ensures,
+      c .word-of-bits2 .ensures,
       eq-eqb _ _ (s .if3 .taken),
       ne-eqb _ _ (s .before .if2 .left),
       ne-eqb _ _ (s .before .before .if1 .left),
@@ -51,9 +51,9 @@ read-value-spec =
     tie.close
     (tie.spec
     returns
-    word-of-requires
+    word-of-bits-requires
     returns-2
-    word-of-requires-2
+    word-of-bits-requires-2
     returns-3
     loaded-requires
     returns-4)

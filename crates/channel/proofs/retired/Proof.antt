@@ -21,8 +21,8 @@ returns-2 c =
     let s = c .before in
     simp (eq-eqb _ _ (s .before .if1 .left), ne-eqb _ _ (s .if2 .taken))
 
-readback-second-requires : tie.Need-readback-second-requires
-readback-second-requires c κs = search needs
+readback-second-active-requires : tie.Need-readback-second-active-requires
+readback-second-active-requires c κs = search needs
 
 retired-part-requires : tie.Need-retired-part-requires
 retired-part-requires c κs = search needs
@@ -35,7 +35,7 @@ returns-3 c =
       eq-eqb _ _ (s .before .if1 .left),
       eq-eqb _ _ (s .if2 .left),
       c .retired-part .ensures,
-      c .before .readback-second .ensures,
+      c .before .readback-second-active .ensures,
     )
 
 pub retired-spec : {M : Type 1} → statement M
@@ -46,6 +46,6 @@ retired-spec =
     returns
     slice-aggregate-result-2
     returns-2
-    readback-second-requires
+    readback-second-active-requires
     retired-part-requires
     returns-3)

@@ -3,7 +3,7 @@ use native.Mathlib.Omega.{arith}
 use lib.ListN.{take}
 use denote.Ref.{now}
 use Rattle.log_line.proofs.Texts.{pieces-7}
-use Rattle.log_line.specs.Lines.{decimal, space, framesOf}
+use Rattle.log_line.specs.Lines.{decimal, space, frameCounts}
 use borrow.Author.Needs.{needs}
 use Rattle.log_line.proofs.put_frames.Statement.{statement}
 use Rattle.log_line.proofs.put_frames.Tie as tie
@@ -33,7 +33,7 @@ same-length : tie.Need-same-length
 same-length c = search needs
 
 returns : tie.Need-returns
-unfolding framesOf
+unfolding frameCounts
 returns c =
     let e0 = c .before .before .put-number4 .ensures in
     let e1 = c .before .before .before .before .before .before .put3 .ensures in

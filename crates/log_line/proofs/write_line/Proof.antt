@@ -5,7 +5,7 @@ use native.Mathlib.Omega.{arith}
 use lib.ListN.{length}
 use lib.Seq.{length-take-le}
 use Rattle.log_line.proofs.Texts.{pieces-6}
-use Rattle.log_line.specs.Lines.{stepsText, refusedText, framesText, decimal, framesOf, lineOf}
+use Rattle.log_line.specs.Lines.{stepsText, refusedText, framesText, decimal, frameCounts, logLine}
 use borrow.Author.Needs.{needs}
 use Rattle.log_line.proofs.write_line.Statement.{statement}
 use Rattle.log_line.proofs.write_line.Tie as tie
@@ -59,7 +59,7 @@ put-number-requires-3 : tie.Need-put-number-requires-3
 put-number-requires-3 c κs = search needs
 
 returns : tie.Need-returns
-unfolding lineOf
+unfolding logLine
 returns c =
     let f = c .put-frames .ensures in
     let t3 = c .before .before .put-text3 .ensures in
@@ -69,10 +69,10 @@ returns c =
     let t1 = c .before .before .before .before .before .before .before .before .before .before .before .before .put-text .ensures in
     let k = c .before .before .before .before .before .before .before .before .before .before .before .before .before .before .before .before .ran .given .0 .0 in
     let h : c .put-frames .result ≤ length (c .put-frames .last .0) = omega arith in
-    (h, sym (length-take-le _ _ h), simp (c .before .before .before .before .before .before .before .before .before .before .before .before .before .before .before .before .ran .given .1, f .2, t3 .1, n2 .2, t2 .1, n1 .2, t1 .1) (pieces-6 stepsText (decimal (k .steps)) refusedText (decimal (k .refused)) framesText (framesOf k)))
+    (h, sym (length-take-le _ _ h), simp (c .before .before .before .before .before .before .before .before .before .before .before .before .before .before .before .before .ran .given .1, f .2, t3 .1, n2 .2, t2 .1, n1 .2, t1 .1) (pieces-6 stepsText (decimal (k .steps)) refusedText (decimal (k .refused)) framesText (frameCounts k)))
 
 returns-2 : tie.Need-returns-2
-unfolding lineOf
+unfolding logLine
 returns-2 c =
     let n = c .put-number3 .ensures in
     let t = c .before .before .before .put-text4 .ensures in

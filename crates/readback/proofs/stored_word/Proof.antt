@@ -19,8 +19,8 @@ weigh-requires-3 c κs = search needs
 add-flags-2 : tie.Need-add-flags-2
 add-flags-2 c = search needs
 
-below-requires : tie.Need-below-requires
-below-requires c κs = search needs
+zero-based-requires : tie.Need-zero-based-requires
+zero-based-requires c κs = search needs
 
 cast-fields : tie.Need-cast-fields
 cast-fields c = search needs
@@ -53,7 +53,7 @@ returns c =
     let s = b .before in
     simp (
       c .weigh4 .ensures .0,
-      b .below .ensures,
+      b .zero-based .ensures,
       s .weigh3 .ensures .0,
       s .before .weigh2 .ensures .0,
       s .before .before .weigh .ensures .0,
@@ -68,7 +68,7 @@ stored-word-spec =
     add-flags
     weigh-requires-3
     add-flags-2
-    below-requires
+    zero-based-requires
     cast-fields
     mul-fields
     weigh-requires-4

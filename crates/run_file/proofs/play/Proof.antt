@@ -5,7 +5,7 @@ use native.Mathlib.Omega.{arith}
 use lib.ListN.{length}
 use denote.Ref.{now}
 use borrow.Author.Needs.{needs}
-use Rattle.replay.specs.Worlds.{world}
+use Rattle.board.specs.Worlds.{world}
 use Rattle.run_file.specs.Runs.{worldAfter, countsAfter}
 use Rattle.run_file.proofs.Turns.{turn-world, turn-counts}
 use Rattle.run_file.proofs.play.Statement.{statement}

@@ -4,7 +4,7 @@ use mathlib.Core.Path.{ap, _∙_}
 use lib.ListN.{length, replicate}
 use denote.Ref.{now}
 use Rattle.board_state.specs.declared.Board.{Board}
-use Rattle.replay.specs.Worlds.{world}
+use Rattle.board.specs.Worlds.{world}
 use Rattle.run_file.specs.Runs.{start, countsAfter}
 use borrow.Author.Needs.{needs}
 use Rattle.run_file.proofs.run_records.Statement.{statement}

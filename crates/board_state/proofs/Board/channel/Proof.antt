@@ -2,7 +2,7 @@
 use Prim.Native.Nat.{ℕ}
 use Rattle.board_state.proofs.Board.channel.Statement.{statement}
 use Rattle.board_state.proofs.Lists.{any-default}
-use Rattle.life.specs.State.{opened}
+use Rattle.channel_core.specs.State.{opened}
 use borrow.Author.Needs.{needs}
 use lib.ListN.{getD, List·getD-eq-default, length, length-map}
 use mathlib.Core.Path.{sym, ap, _∙_, _≡_}
@@ -12,8 +12,8 @@ use Rattle.board_state.proofs.Board.channel.Tie as tie
 four : (c : tie.Start) → length (c .args .t1 .channels) ≡ 4
 four c = simp length-map at (c .good .0 .1 .1 .1 .1 .1 .1 .0 .1 .0 .1)
 
-below-requires : tie.Need-below-requires
-below-requires c κs = search needs
+zero-based-requires : tie.Need-zero-based-requires
+zero-based-requires c κs = search needs
 
 cast-i : tie.Need-cast-i
 cast-i c = search needs
@@ -25,19 +25,19 @@ element-copy-out-result : tie.Need-element-copy-out-result
 element-copy-out-result c = search needs
 
 returns : tie.Need-returns
-returns c = let s = c .before .before .before in any-default (s .args .t1 .channels) (c .before .before .below .result) _ opened (omega (arith, four s, c .before .if1 .taken)) ∙ ap (λ (i : ℕ). getD (s .args .t1 .channels) i opened) (c .before .before .below .ensures)
+returns c = let s = c .before .before .before in any-default (s .args .t1 .channels) (c .before .before .zero-based .result) _ opened (omega (arith, four s, c .before .if1 .taken)) ∙ ap (λ (i : ℕ). getD (s .args .t1 .channels) i opened) (c .before .before .zero-based .ensures)
 
 opened-requires : tie.Need-opened-requires
 opened-requires c κs = search needs
 
 returns-2 : tie.Need-returns-2
-returns-2 c = let s = c .before .before .before in c .opened .ensures ∙ sym (List·getD-eq-default (s .args .t1 .channels) opened (omega (arith, four s, c .before .if1 .left, c .before .before .below .ensures)))
+returns-2 c = let s = c .before .before .before in c .opened .ensures ∙ sym (List·getD-eq-default (s .args .t1 .channels) opened (omega (arith, four s, c .before .if1 .left, c .before .before .zero-based .ensures)))
 
 pub channel-spec : {M : Type 1} → statement M
 channel-spec =
     tie.close
     (tie.spec
-    below-requires
+    zero-based-requires
     cast-i
     mul-result
     element-copy-out-result

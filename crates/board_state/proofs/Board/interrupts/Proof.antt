@@ -1,8 +1,8 @@
 -- `board_state::Board::interrupts` meets its contract: by the tests on the way and the contracts of what it calls. Assumes nothing.
 use Rattle.board_state.proofs.Board.interrupts.Statement.{statement}
-use Rattle.board_state.specs.State.{chan}
+use Rattle.board_state.specs.State.{channelAt}
 use Rattle.channel.specs.Calls.{mainBit}
-use Rattle.life.specs.declared.Channel.{Channel}
+use Rattle.channel_core.specs.declared.Channel.{Channel}
 use Rattle.status.specs.Bits.{bitAt}
 use borrow.Author.Needs.{needs}
 use mathlib.Core.Bool.{Bool, false, _&&_}
@@ -10,7 +10,7 @@ use mathlib.Core.Path.{_≡_, sym, ap, _∙_}
 use Rattle.board_state.proofs.Board.interrupts.Tie as tie
 
 -- the channel's bit, said of the board
-set-is : (c : tie.After-main-bit) → c .main-bit .result ≡ mainBit (chan (c .before .before .args .self) (c .before .before .args .number)) false
+set-is : (c : tie.After-main-bit) → c .main-bit .result ≡ mainBit (channelAt (c .before .before .args .self) (c .before .before .args .number)) false
 set-is c = c .main-bit .ensures ∙ ap (λ (x : Channel). mainBit x false) (c .before .channel .ensures)
 
 channel-requires : tie.Need-channel-requires

@@ -12,8 +12,8 @@ use Rattle.board_state.proofs.Board.with_channel.Tie as tie
 four : (c : tie.Start) → length (c .args .self .channels) ≡ 4
 four c = simp length-map at (c .good .0 .1 .1 .1 .1 .1 .1 .0 .1 .0 .1)
 
-below-requires : tie.Need-below-requires
-below-requires c κs = search needs
+zero-based-requires : tie.Need-zero-based-requires
+zero-based-requires c κs = search needs
 
 cast-i : tie.Need-cast-i
 cast-i c = search needs
@@ -25,11 +25,11 @@ element-set-from-c : tie.Need-element-set-from-c
 element-set-from-c c = search needs
 
 returns : tie.Need-returns
-returns c = simp (c .before .below .ensures)
+returns c = simp (c .before .zero-based .ensures)
 
 returns-2 : tie.Need-returns-2
-returns-2 c = let s = c .before .before in sym (ap (withChannels (s .args .self)) (set-out (s .args .self .channels) (s .args .number - 1) (s .args .c) (omega (arith, four s, c .if1 .left, c .before .below .ensures))))
+returns-2 c = let s = c .before .before in sym (ap (withChannels (s .args .self)) (set-out (s .args .self .channels) (s .args .number - 1) (s .args .c) (omega (arith, four s, c .if1 .left, c .before .zero-based .ensures))))
 
 pub with-channel-spec : {M : Type 1} → statement M
 with-channel-spec =
-    tie.close (tie.spec below-requires cast-i mul-c element-set-from-c returns returns-2)
+    tie.close (tie.spec zero-based-requires cast-i mul-c element-set-from-c returns returns-2)

@@ -13,8 +13,8 @@ forty c = simp length-map at (c .good .0 .1 .1 .1 .1 .1 .1 .1 .1 .0 .1 .0 .1)
 mul-at : tie.Need-mul-at
 mul-at c = search needs
 
-below-requires : tie.Need-below-requires
-below-requires c κs = search needs
+zero-based-requires : tie.Need-zero-based-requires
+zero-based-requires c κs = search needs
 
 cast-at : tie.Need-cast-at
 cast-at c = search needs
@@ -29,14 +29,14 @@ array-read-result : tie.Need-array-read-result
 array-read-result c = search needs
 
 returns : tie.Need-returns
-returns c = simp (c .before .before .below .ensures)
+returns c = simp (c .before .before .zero-based .ensures)
 
 returns-2 : tie.Need-returns-2
 returns-2 c =
     let s = c .before .before .before in
-    sym (List·getD-eq-default (s .args .self .delays) 0 (omega (arith, forty s, c .if1 .left, c .before .before .below .ensures)))
+    sym (List·getD-eq-default (s .args .self .delays) 0 (omega (arith, forty s, c .if1 .left, c .before .before .zero-based .ensures)))
 
 pub delay-spec : {M : Type 1} → statement M
 delay-spec =
     tie.close
-    (tie.spec mul-at below-requires cast-at add-at mul-result array-read-result returns returns-2)
+    (tie.spec mul-at zero-based-requires cast-at add-at mul-result array-read-result returns returns-2)

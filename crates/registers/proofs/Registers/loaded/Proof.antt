@@ -12,14 +12,14 @@ returns : tie.Need-returns
 unfolding loaded
 returns c = simp (eq-eqb _ _ (c .if1 .taken))
 
-word-of-requires : tie.Need-word-of-requires
-word-of-requires c κs = search needs
+word-of-bits-requires : tie.Need-word-of-bits-requires
+word-of-bits-requires c κs = search needs
 
 returns-2 : tie.Need-returns-2
 unfolding loaded
 returns-2 c =
     simp (
-      c .word-of .ensures,
+      c .word-of-bits .ensures,
       eq-eqb _ _ (c .before .before .if2 .taken),
       ne-eqb _ _ (c .before .before .before .if1 .left),
     )
@@ -148,7 +148,7 @@ loaded-spec =
     tie.close
     (tie.spec
     returns
-    word-of-requires
+    word-of-bits-requires
     returns-2
     cast-result
     returns-3

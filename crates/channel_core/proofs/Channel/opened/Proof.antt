@@ -1,0 +1,32 @@
+-- `channel_core::Channel::opened` meets its contract: each part as opened. Assumes nothing.
+use Rattle.channel_core.specs.State.{opened}
+use borrow.Author.Needs.{needs}
+use Rattle.channel_core.proofs.Channel.opened.Statement.{statement}
+use Rattle.channel_core.proofs.Channel.opened.Tie as tie
+
+opened-requires : tie.Need-opened-requires
+opened-requires c κs = search needs
+
+opened-requires-2 : tie.Need-opened-requires-2
+opened-requires-2 c κs = search needs
+
+opened-requires-3 : tie.Need-opened-requires-3
+opened-requires-3 c κs = search needs
+
+opened-requires-4 : tie.Need-opened-requires-4
+opened-requires-4 c κs = search needs
+
+returns : tie.Need-returns
+unfolding opened
+returns c =
+    simp (
+      c .opened4 .ensures,
+      c .before .opened3 .ensures,
+      c .before .before .opened2 .ensures,
+      c .before .before .before .opened .ensures,
+    )
+
+pub opened-spec : {M : Type 1} → statement M
+opened-spec =
+    tie.close
+    (tie.spec opened-requires opened-requires-2 opened-requires-3 opened-requires-4 returns)

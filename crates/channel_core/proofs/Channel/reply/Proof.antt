@@ -1,0 +1,55 @@
+-- `channel_core::Channel::reply` meets its contract: refused where it is not well framed, and else received with its fields. Assumes nothing.
+use Rattle.channel_core.specs.Behaviour.{replyOf, replyAnswer, replyWords}
+use borrow.Author.Needs.{needs}
+use Rattle.channel_core.proofs.Channel.reply.Statement.{statement}
+use Rattle.channel_core.proofs.Channel.reply.Tie as tie
+
+decode-requires : tie.Need-decode-requires
+decode-requires c κs = search needs
+
+enum-told : tie.Need-enum-told
+enum-told c = search needs
+
+enum-known-reading : tie.Need-enum-known-reading
+enum-known-reading c = search needs
+
+crc-matches-requires : tie.Need-crc-matches-requires
+crc-matches-requires c κs = search needs
+
+received-requires : tie.Need-received-requires
+received-requires c κs = search needs
+
+returns : tie.Need-returns
+unfolding replyOf replyAnswer replyWords
+returns c =
+    let refused = c .enum-told .given .1 in
+    rw (← c .before .before .decode .ensures) (simp (refused), simp (refused), simp (refused))
+
+same-length : tie.Need-same-length
+same-length c = search needs
+
+returns-2 : tie.Need-returns-2
+unfolding replyOf replyAnswer replyWords
+returns-2 c =
+    let k = c .before .before in
+    let right = k .before .before .crc-matches .ensures in
+    let s = k .before .before .before .before in
+    let fields = s .reading .given .1 in
+    rw (← s .before .before .decode .ensures) (
+      simp (fields, k .received .ensures .0, right),
+      simp (fields, k .received .ensures .1),
+      simp (fields, k .received .ensures .2, right),
+    )
+
+pub reply-spec : {M : Type 1} → statement M
+reply-spec =
+    tie.close
+    (tie.spec
+    decode-requires
+    enum-told
+    enum-known-reading
+    crc-matches-requires
+    received-requires
+    returns
+    same-length
+    returns-2)

@@ -1,0 +1,31 @@
+-- `channel_core::Channel::reset` meets its contract: each part as opened, but for the Main bits. Assumes nothing.
+use Rattle.channel_core.specs.State.{reset}
+use borrow.Author.Needs.{needs}
+use Rattle.channel_core.proofs.Channel.reset.Statement.{statement}
+use Rattle.channel_core.proofs.Channel.reset.Tie as tie
+
+reset-requires : tie.Need-reset-requires
+reset-requires c κs = search needs
+
+opened-requires : tie.Need-opened-requires
+opened-requires c κs = search needs
+
+opened-requires-2 : tie.Need-opened-requires-2
+opened-requires-2 c κs = search needs
+
+opened-requires-3 : tie.Need-opened-requires-3
+opened-requires-3 c κs = search needs
+
+returns : tie.Need-returns
+unfolding reset
+returns c =
+    simp (
+      c .opened3 .ensures,
+      c .before .opened2 .ensures,
+      c .before .before .opened .ensures,
+      c .before .before .before .reset .ensures,
+    )
+
+pub reset-spec : {M : Type 1} → statement M
+reset-spec =
+    tie.close (tie.spec reset-requires opened-requires opened-requires-2 opened-requires-3 returns)

@@ -1,0 +1,203 @@
+-- Document 01, 'A channel's life': what a channel does, over its own part of the lent memory (16 × N setpoint words, 2 × M readback words).
+use Prim.Native.Nat.{ℕ, _+_, _-_, _*_, _%_}
+use mathlib.Core.Bool.{Bool, true, false, cond, not, _&&_}
+use mathlib.Core.List.{List}
+use lib.ListN.{getD, set}
+use lib.Dec.{eqb, ltb}
+use Rattle.frame.specs.Frames.{Reading, refused, fields, read, encoded, crcRight}
+use Rattle.status.specs.declared.Status.{Status}
+use Rattle.status.specs.Bits.{bitAt, bitOf}
+use Rattle.status.specs.Latching.{latched, run, groupEnd, earlyEnd, crcError}
+use Rattle.registers.specs.declared.Registers.{Registers}
+use Rattle.registers.specs.Map.{periodOf, triggersOf, startEvent, groupEndEvent, delayOf, secondActive, readbackPlace}
+use Rattle.registers.specs.Map as reg
+use Rattle.sequencer.specs.declared.Sequencer.{Sequencer}
+use Rattle.sequencer.specs.declared.Transmission.{Transmission}
+use Rattle.sequencer.specs.declared.Transmission.the-variants as transmission
+use Rattle.sequencer.specs.declared.Ticked as t
+use Rattle.sequencer.specs.Playing.{isIdle, unfinished, idled, ticked, answered}
+use Rattle.sequencer.specs.Playing as seq
+use Rattle.readback.specs.declared.Disposition.{Disposition}
+use Rattle.readback.specs.declared.Disposition.the-variants as disposition
+use Rattle.readback.specs.Storing.{dispositionOf, storedWord, keptIn, keptWords, endWords}
+use Rattle.readback.specs.Storing as rb
+use Rattle.channel_core.specs.declared.Channel.{Channel}
+use Rattle.channel_core.specs.Answers.{Answer}
+use Rattle.channel_core.specs.Answers as ans
+use Rattle.channel_core.specs.State.{withStatus, withSequencer, conditionLatched}
+
+-- ---- Start
+
+-- "Start (its event, or Commands D0) works if armed." "From idle it latches RUN; otherwise the function restarts, with no RUN."
+unfoldable pub started : Channel → ℕ → Channel
+started c delay =
+    cond (c .sequencer .armed)
+    (withSequencer (cond (isIdle (c .sequencer .stage)) (conditionLatched c run) c) (seq.started (c .sequencer) delay))
+    c
+
+-- ---- Idle
+
+-- the status as the channel is idled: "latch EE if the channel isn't idle and the last word wasn't sent since its latest Start"
+abbrev pub earlyEnded : Status → Sequencer → Status
+earlyEnded s q = cond (unfinished q) (latched s earlyEnd) s
+
+-- "A user change to another user idles every channel, with EE as above."
+unfoldable pub userChanged : Channel → Channel
+userChanged c = withSequencer (withStatus c (earlyEnded (c .status) (c .sequencer))) (idled (c .sequencer))
+
+-- ---- Group End
+
+-- "Group End (event, or Commands D2), armed or not: latch EE ..; idle; ..; readback buffers switch, the new one empty; users with Switch D0
+-- set switch and the bits clear; the setpoint count is shown, then cleared; latch GE."
+unfoldable pub groupEnded : Channel → Channel
+groupEnded c =
+    record {
+      status = latched (earlyEnded (c .status) (c .sequencer)) groupEnd;
+      registers = reg.groupEnded (c .registers) (c .sequencer .count);
+      sequencer = seq.groupEnded (c .sequencer);
+      readbacks = rb.groupEnded (c .readbacks);
+    }
+
+-- "02000000h goes after the stored readbacks if there is space (bench)", before the buffers switch
+unfoldable pub groupWords : Channel → List ℕ → ℕ → List ℕ
+groupWords c s m = endWords (c .readbacks) s (secondActive (c .registers) readbackPlace) m
+
+-- ---- "One event or command does Group End, Start, Resume in that order."
+
+-- Group End, where it is asked for
+unfoldable pub endedIf : Bool → Channel → Channel
+endedIf on c = cond on (groupEnded c) c
+
+unfoldable pub endedWords : Bool → Channel → List ℕ → ℕ → List ℕ
+endedWords on c s m = cond on (groupWords c s m) s
+
+-- Start, where it is asked for
+unfoldable pub startedIf : Bool → Channel → ℕ → Channel
+startedIf on c delay = cond on (started c delay) c
+
+-- Resume of a pause (1–4, and 0 for the VME pause), where it is asked for
+unfoldable pub resumedIf : Bool → Channel → ℕ → ℕ → Channel
+resumedIf on c pause delay = cond on (withSequencer c (seq.resumed (c .sequencer) pause delay)) c
+
+-- "Resume k (its event, for pause k)": each Resume event with this code, by the registers `r`, with the current user's delay
+unfoldable pub resumedOn : Registers → Channel → ℕ → ℕ → Channel
+resumedOn r c user code =
+    resumedIf (triggersOf r 4 code)
+    (resumedIf (triggersOf r 3 code)
+    (resumedIf (triggersOf r 2 code)
+    (resumedIf (triggersOf r 1 code) c 1 (delayOf r 1 user))
+    2 (delayOf r 2 user))
+    3 (delayOf r 3 user))
+    4 (delayOf r 4 user)
+
+-- an event: its registers say what it does; delays are the current user's
+unfoldable pub eventOf : Channel → ℕ → ℕ → Channel
+eventOf c user code =
+    resumedOn (c .registers)
+    (startedIf (triggersOf (c .registers) startEvent code) (endedIf (triggersOf (c .registers) groupEndEvent code) c)
+    (delayOf (c .registers) 0 user))
+    user code
+
+-- its readback words after an event: Group End may write an end word
+unfoldable pub eventWords : Channel → List ℕ → ℕ → ℕ → List ℕ
+eventWords c s m code = endedWords (triggersOf (c .registers) groupEndEvent code) c s m
+
+-- a write to Commands: D2 Group End, D0 Start, D1 Resume of the VME pause (pause 0); delays are 0
+unfoldable pub commanded : Channel → ℕ → Channel
+commanded c value = resumedIf (bitAt value 1) (startedIf (bitAt value 0) (endedIf (bitAt value 2) c) 0) 0 0
+
+-- its readback words after a write to Commands
+unfoldable pub commandWords : Channel → List ℕ → ℕ → ℕ → List ℕ
+commandWords c s m value = endedWords (bitAt value 2) c s m
+
+-- ---- A tick
+
+-- index of a setpoint in the channel's 16 × N words, "by .. user, buffer .., index", user and buffer from 0
+abbrev pub setpointPlace : ℕ → ℕ → ℕ → ℕ → ℕ
+setpointPlace user buffer n index = (user * 2 + buffer) * n + index
+
+-- the word at the index due, of the current user's active buffer (0 past the words that are lent)
+unfoldable pub dueOf : Channel → List ℕ → ℕ → ℕ → ℕ
+dueOf c s n user = getD s (setpointPlace (user - 1) (bitOf (secondActive (c .registers) (user - 1))) n (c .sequencer .index)) 0
+
+-- the sequencer's share of a tick
+abbrev pub playedOf : Channel → List ℕ → ℕ → ℕ → t.Ticked
+playedOf c s n user = ticked (c .sequencer) (dueOf c s n user) n (periodOf (c .registers .clock))
+
+-- the status with what a send latches; 0 is no condition
+abbrev pub sendStatus : Status → Transmission → Status
+sendStatus s transmission.Nothing = s
+sendStatus s (transmission.Word word k) = cond (eqb k 0) s (latched s k)
+
+-- "Setpoint frames carry the register's Frame ID, D15–D0 of the word, auxiliary 0."
+abbrev pub sendFrame : Registers → Transmission → Answer
+sendFrame r transmission.Nothing = ans.none
+sendFrame r (transmission.Word word k) = ans.frame (encoded (r .id) (word % 65536) 0)
+
+-- "tick (1 µs)": the channel after it
+unfoldable pub tickOf : Channel → List ℕ → ℕ → ℕ → Channel
+tickOf c s n user =
+    withSequencer (withStatus c (sendStatus (c .status) (playedOf c s n user .transmission))) (playedOf c s n user .sequencer)
+
+-- "A tick answers with each channel's frame or none."
+unfoldable pub tickAnswer : Channel → List ℕ → ℕ → ℕ → Answer
+tickAnswer c s n user = sendFrame (c .registers) (playedOf c s n user .transmission)
+
+-- ---- A reply
+
+-- what becomes of a well-framed reply
+unfoldable pub dispositionNow : Channel → ℕ → Disposition
+dispositionNow c m = dispositionOf (isIdle (c .sequencer .stage)) (c .sequencer .last) (c .readbacks .stored) m
+
+-- "A wrong CRC, kept or lost, latches CRC."
+abbrev pub crcStatus : Status → Bool → Status
+crcStatus s right = cond right s (latched s crcError)
+
+-- what a well-framed reply is answered
+abbrev pub receiptAnswer : Disposition → Answer
+receiptAnswer disposition.Unsolicited = ans.unsolicited
+receiptAnswer disposition.Lost = ans.lost
+receiptAnswer disposition.Kept = ans.kept
+
+-- the channel after it: a lost reply "counts among the six" too, an unasked one changes nothing
+abbrev pub receivedChannel : Disposition → Channel → ℕ → Bool → Channel
+receivedChannel disposition.Unsolicited c m right = c
+receivedChannel disposition.Lost c m right =
+    withSequencer (withStatus c (crcStatus (c .status) right)) (answered (c .sequencer))
+receivedChannel disposition.Kept c m right =
+    record {
+      status = crcStatus (c .status) right;
+      registers = c .registers;
+      sequencer = answered (c .sequencer);
+      readbacks = keptIn (c .readbacks) m;
+    }
+
+-- the readback words after it: only a kept reply is stored
+abbrev pub receivedWords : Disposition → Channel → List ℕ → ℕ → ℕ → List ℕ
+receivedWords disposition.Unsolicited c s m word = s
+receivedWords disposition.Lost c s m word = s
+receivedWords disposition.Kept c s m word = keptWords (c .readbacks) s (secondActive (c .registers) readbackPlace) m word
+
+-- a reply by what its number is read as: refused 7, which changes nothing, or received with its fields
+abbrev pub replyAnswerAs : Reading → Channel → ℕ → Answer
+replyAnswerAs (refused k) c m = ans.refused k
+replyAnswerAs (fields id word aux crc) c m = receiptAnswer (dispositionNow c m)
+
+abbrev pub replyAs : Reading → Channel → ℕ → Channel
+replyAs (refused k) c m = c
+replyAs (fields id word aux crc) c m = receivedChannel (dispositionNow c m) c m (crcRight id word aux crc)
+
+abbrev pub replyWordsAs : Reading → Channel → List ℕ → ℕ → ℕ → List ℕ
+replyWordsAs (refused k) c s m user = s
+replyWordsAs (fields id word aux crc) c s m user =
+    receivedWords (dispositionNow c m) c s m (storedWord (c .sequencer .last) user (not (crcRight id word aux crc)) id word)
+
+-- a reply: what it is answered, the channel after it, and its readback words
+unfoldable pub replyAnswer : Channel → ℕ → ℕ → Answer
+replyAnswer c m f = replyAnswerAs (read f) c m
+
+unfoldable pub replyOf : Channel → ℕ → ℕ → Channel
+replyOf c m f = replyAs (read f) c m
+
+unfoldable pub replyWords : Channel → List ℕ → ℕ → ℕ → ℕ → List ℕ
+replyWords c s m user f = replyWordsAs (read f) c s m user

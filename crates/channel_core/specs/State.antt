@@ -1,0 +1,38 @@
+-- One channel's state: what document 01 lists under "It holds ..", but for the depths, the current user and the words, which come with each call.
+--   "its registers"                          registers, and status .enable, status's two copies
+--   "both Main bits"                         status .interrupt .main, status .polling .main
+--   armed, idle, ticks, index, word, last send, replies, last word went, setpoint count    sequencer (crate `sequencer`)
+--   "both stored readback counts"            readbacks (crate `readback`)
+use Prim.Native.Nat.{ℕ}
+use Rattle.status.specs.declared.Status.{Status}
+use Rattle.status.specs.Latching as st
+use Rattle.registers.specs.declared.Registers.{Registers}
+use Rattle.registers.specs.Map as reg
+use Rattle.sequencer.specs.declared.Sequencer.{Sequencer}
+use Rattle.sequencer.specs.Playing as seq
+use Rattle.readback.specs.declared.Readbacks.{Readbacks}
+use Rattle.readback.specs.Storing as rb
+use Rattle.channel_core.specs.declared.Channel.{Channel}
+
+-- "all registers 0, channels disarmed, .. buffers 1 active, no readbacks"
+unfoldable pub opened : Channel
+opened =
+    record { status = st.opened; registers = reg.opened; sequencer = seq.opened; readbacks = rb.opened }
+
+-- "Reset D0 returns that channel to its opening state; lent words and its Main bits stay (bench)."
+unfoldable pub reset : Channel → Channel
+reset c =
+    record { status = st.reset (c .status); registers = reg.opened; sequencer = seq.opened; readbacks = rb.opened }
+
+abbrev pub withStatus : Channel → Status → Channel
+withStatus c s = record { status = s; registers = c .registers; sequencer = c .sequencer; readbacks = c .readbacks }
+
+abbrev pub withRegisters : Channel → Registers → Channel
+withRegisters c r = record { status = c .status; registers = r; sequencer = c .sequencer; readbacks = c .readbacks }
+
+abbrev pub withSequencer : Channel → Sequencer → Channel
+withSequencer c s = record { status = c .status; registers = c .registers; sequencer = s; readbacks = c .readbacks }
+
+-- a condition happens
+abbrev pub conditionLatched : Channel → ℕ → Channel
+conditionLatched c bit = withStatus c (st.latched (c .status) bit)

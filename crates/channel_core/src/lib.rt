@@ -1,0 +1,339 @@
+// A channel's life: Start, Group End, events and commands, user changes, ticks and replies, over the channel's own part of the lent memory.
+// It knows no board and no other channel.
+use frame::Decoded;
+use readback::Disposition;
+use readback::Readbacks;
+use refusal::Refusal;
+use registers::Registers;
+use sequencer::Sequencer;
+use sequencer::Transmission;
+use status::Status;
+ghost use mathlib.Core.Path.{_≡_};
+ghost use mathlib.Core.Bool.{not};
+ghost use lib.ListN.{getD};
+ghost use Rattle.status.specs.Bits.{bitOf};
+ghost use Rattle.readback.specs.Storing.{storedWord};
+ghost use Rattle.channel_core.specs.Answers.{receiptOf, lineOf};
+ghost use Rattle.channel_core.specs.State.{opened, reset};
+ghost use Rattle.channel_core.specs.Behaviour.{started, earlyEnded, userChanged, groupEnded, endedIf, endedWords, startedIf, resumedIf, resumedOn, eventOf, eventWords, commanded, commandWords, setpointPlace, dueOf, tickOf, tickAnswer, dispositionNow, receivedChannel, receiptAnswer, receivedWords, crcStatus, replyAnswer, replyOf, replyWords};
+
+pub struct Channel {
+    pub status: Status,
+    pub registers: Registers,
+    pub sequencer: Sequencer,
+    pub readbacks: Readbacks,
+}
+
+// The answer of a tick: a frame, or none.
+pub enum Line {
+    Silent,
+    Frame(u64),
+}
+
+// The answer of a reply.
+pub enum Receipt {
+    Kept,
+    Lost,
+    // "unasked"
+    Unsolicited,
+    Refused(Refusal),
+}
+
+pub struct Ticked {
+    pub channel: Channel,
+    pub line: Line,
+}
+
+pub struct Received {
+    pub channel: Channel,
+    pub receipt: Receipt,
+}
+
+// Where a setpoint lies in the channel's own words; user and buffer from 0.
+pub fn setpoint_place(user: u8, second: bool, n: u32, index: u32) -> usize
+    ensures { λ r. ⌜ r ≡ setpointPlace user (bitOf second) n index ⌝ }
+{
+    let u = user as usize * 2;
+    if second {
+        return (u + 1) * n as usize + index as usize;
+    }
+    u * n as usize + index as usize
+}
+
+// A word of a slice, and 0 past its end.
+fn word_at(words: &[u32], at: usize) -> u32
+    ensures { λ r. ⌜ r ≡ getD (now (words .entry)) at 0 ⌝ }
+{
+    if at < words.len() { words[at] } else { 0 }
+}
+
+// The status as the channel is idled: an early end, if the function is not finished.
+fn early_ended(s: Status, q: Sequencer) -> Status
+    ensures { λ r. ⌜ r ≡ earlyEnded s q ⌝ }
+{
+    if q.unfinished() {
+        return s.latched(status::EARLY_END);
+    }
+    s
+}
+
+// The status after a reply that was kept or lost.
+fn crc_checked(s: Status, right: bool) -> Status
+    ensures { λ r. ⌜ r ≡ crcStatus s right ⌝ }
+{
+    if right {
+        return s;
+    }
+    s.latched(status::CRC_ERROR)
+}
+
+impl Channel {
+    pub fn opened() -> Channel
+        ensures { λ r. ⌜ r ≡ opened ⌝ }
+    {
+        Channel {
+            status: Status::opened(),
+            registers: Registers::opened(),
+            sequencer: Sequencer::opened(),
+            readbacks: Readbacks::opened(),
+        }
+    }
+
+    // Reset: as opened, but for the Main bits.
+    pub fn reset(self) -> Channel
+        ensures { λ r. ⌜ r ≡ reset self ⌝ }
+    {
+        let s = self.status;
+        Channel {
+            status: s.reset(),
+            registers: Registers::opened(),
+            sequencer: Sequencer::opened(),
+            readbacks: Readbacks::opened(),
+        }
+    }
+
+    // Start, of an armed channel; from idle it latches RUN.
+    fn started(self, delay: u32) -> Channel
+        ensures { λ r. ⌜ r ≡ started self delay ⌝ }
+    {
+        let q = self.sequencer;
+        if q.armed {
+            let stage = q.stage;
+            if sequencer::is_idle(stage) {
+                let s = self.status;
+                let mut c = self;
+                c.status = s.latched(status::RUN);
+                c.sequencer = q.started(delay);
+                return c;
+            }
+            let mut c = self;
+            c.sequencer = q.started(delay);
+            return c;
+        }
+        self
+    }
+
+    // The current user changed to another.
+    pub fn user_changed(self) -> Channel
+        ensures { λ r. ⌜ r ≡ userChanged self ⌝ }
+    {
+        let s = self.status;
+        let q = self.sequencer;
+        let mut c = self;
+        c.status = early_ended(s, q);
+        c.sequencer = q.idled();
+        c
+    }
+
+    fn group_ended(self) -> Channel
+        ensures { λ r. ⌜ r ≡ groupEnded self ⌝ }
+    {
+        let s = self.status;
+        let r = self.registers;
+        let q = self.sequencer;
+        let b = self.readbacks;
+        Channel {
+            status: early_ended(s, q).latched(status::GROUP_END),
+            registers: r.group_ended(q.count),
+            sequencer: q.group_ended(),
+            readbacks: b.group_ended(),
+        }
+    }
+
+    // Group End, if it is asked for: the end word into the own words, then the rest.
+    fn end_if(self, on: bool, words: &mut [u32], m: u32) -> Channel
+        ensures { λ r. ⌜ (r ≡ endedIf on self) × (now (words .exit) ≡ endedWords on self (now (words .entry)) m) ⌝ }
+    {
+        if on {
+            let r = self.registers;
+            let b = self.readbacks;
+            b.mark_end(words, r.readback_second_active(), m);
+            return self.group_ended();
+        }
+        self
+    }
+
+    fn start_if(self, on: bool, delay: u32) -> Channel
+        ensures { λ r. ⌜ r ≡ startedIf on self delay ⌝ }
+    {
+        if on {
+            return self.started(delay);
+        }
+        self
+    }
+
+    fn resume_if(self, on: bool, pause: u8, delay: u32) -> Channel
+        ensures { λ r. ⌜ r ≡ resumedIf on self pause delay ⌝ }
+    {
+        if on {
+            let q = self.sequencer;
+            let mut c = self;
+            c.sequencer = q.resumed(pause, delay);
+            return c;
+        }
+        self
+    }
+
+    // Each Resume event that has this code.
+    fn resume_on(self, r: Registers, user: u8, code: u8) -> Channel
+        ensures { λ c. ⌜ c ≡ resumedOn r self user code ⌝ }
+    {
+        let a = self.resume_if(r.triggers(1, code), 1, r.delay(1, user));
+        let b = a.resume_if(r.triggers(2, code), 2, r.delay(2, user));
+        let c = b.resume_if(r.triggers(3, code), 3, r.delay(3, user));
+        c.resume_if(r.triggers(4, code), 4, r.delay(4, user))
+    }
+
+    // An event: Group End, Start, Resume, as its registers say.
+    pub fn event(self, words: &mut [u32], m: u32, user: u8, code: u8) -> Channel
+        ensures { λ r. ⌜ (r ≡ eventOf self user code) × (now (words .exit) ≡ eventWords self (now (words .entry)) m code) ⌝ }
+    {
+        let r = self.registers;
+        let a = self.end_if(r.triggers(5, code), words, m);
+        let b = a.start_if(r.triggers(0, code), r.delay(0, user));
+        b.resume_on(r, user, code)
+    }
+
+    // A write to Commands: D2 Group End, D0 Start, D1 Resume of the VME pause.
+    pub fn command(self, words: &mut [u32], m: u32, value: u16) -> Channel
+        ensures { λ r. ⌜ (r ≡ commanded self value) × (now (words .exit) ≡ commandWords self (now (words .entry)) m value) ⌝ }
+    {
+        let a = self.end_if(status::is_set(value, 2), words, m);
+        let b = a.start_if(status::is_set(value, 0), 0);
+        b.resume_if(status::is_set(value, 1), 0, 0)
+    }
+
+    // The word at the index due, of the current user's active buffer.
+    fn due(self, setpoints: &[u32], n: u32, user: u8) -> u32
+        ensures { λ r. ⌜ r ≡ dueOf self (now (setpoints .entry)) n user ⌝ }
+    {
+        let r = self.registers;
+        let q = self.sequencer;
+        let at = setpoint_place(
+            registers::zero_based(user),
+            r.second_active(user),
+            n,
+            q.index,
+        );
+        word_at(setpoints, at)
+    }
+
+    // One tick: the sequencer's, and what a send latches and shows.
+    pub fn tick(self, setpoints: &[u32], n: u32, user: u8) -> Ticked
+        ensures { λ r. ⌜ (r .channel ≡ tickOf self (now (setpoints .entry)) n user) × (lineOf (r .line) ≡ tickAnswer self (now (setpoints .entry)) n user) ⌝ }
+    {
+        let r = self.registers;
+        let q = self.sequencer;
+        let t = q.tick(self.due(setpoints, n, user), n, registers::period(r.clock));
+        let next = t.sequencer;
+        let sent = t.transmission;
+        let mut c = self;
+        c.sequencer = next;
+        match sent {
+            Transmission::Nothing => Ticked {
+                channel: c,
+                line: Line::Silent,
+            },
+            Transmission::Word { word, condition } => {
+                let line = Line::Frame(frame::encode(r.id, (word % 65536) as u16, 0));
+                if condition != 0 {
+                    let s = c.status;
+                    c.status = s.latched(condition);
+                }
+                Ticked {
+                    channel: c,
+                    line: line,
+                }
+            }
+        }
+    }
+
+    // A well-framed reply.
+    fn received(
+        self,
+        words: &mut [u32],
+        m: u32,
+        user: u8,
+        id: u8,
+        data: u16,
+        right: bool,
+    ) -> Received
+        ensures { λ r. ⌜ (r .channel ≡ receivedChannel (dispositionNow self m) self m right) × (receiptOf (r .receipt) ≡ receiptAnswer (dispositionNow self m)) × (now (words .exit) ≡ receivedWords (dispositionNow self m) self (now (words .entry)) m (storedWord (self .sequencer .last) user (not right) id «data»)) ⌝ }
+    {
+        let q = self.sequencer;
+        let b = self.readbacks;
+        let stage = q.stage;
+        let last = q.last;
+        let disposition = readback::dispose(sequencer::is_idle(stage), last, b.stored, m);
+        let mut c = self;
+        match disposition {
+            Disposition::Unsolicited => Received {
+                channel: c,
+                receipt: Receipt::Unsolicited,
+            },
+            Disposition::Lost => {
+                let s = c.status;
+                c.status = crc_checked(s, right);
+                c.sequencer = q.answered();
+                Received {
+                    channel: c,
+                    receipt: Receipt::Lost,
+                }
+            }
+            Disposition::Kept => {
+                let s = c.status;
+                let r = c.registers;
+                let word = readback::stored_word(last, user, !right, id, data);
+                c.status = crc_checked(s, right);
+                c.sequencer = q.answered();
+                c.readbacks = b.keep(words, r.readback_second_active(), m, word);
+                Received {
+                    channel: c,
+                    receipt: Receipt::Kept,
+                }
+            }
+        }
+    }
+
+    // A reply from the supply.
+    pub fn reply(self, words: &mut [u32], m: u32, user: u8, frame: u64) -> Received
+        ensures { λ r. ⌜ (r .channel ≡ replyOf self m frame) × (receiptOf (r .receipt) ≡ replyAnswer self m frame) × (now (words .exit) ≡ replyWords self (now (words .entry)) m user frame) ⌝ }
+    {
+        let reading = frame::decode(frame);
+        match reading {
+            Decoded::FramingError => Received {
+                channel: self,
+                receipt: Receipt::Refused(Refusal::FramingError),
+            },
+            Decoded::Fields {
+                id,
+                data,
+                auxiliary,
+                crc,
+            } => {
+                let right = frame::crc_matches(id, data, auxiliary, crc);
+                self.received(words, m, user, id, data, right)
+            }
+        }
+    }
+}

@@ -1,0 +1,70 @@
+-- `status::word_of_bits` meets its contract: `w` is the word of the bits from `k` on, as `k` goes down from 16 to 0. Assumes nothing.
+use native.Mathlib.Omega.{arith}
+use Prim.Native.Nat.{ℕ, _+_, _-_, _*_, _≤_, _<_}
+use mathlib.Core.Path.{_≡_, ap, _∙_}
+use mathlib.Core.Bool.{false}
+use lib.ListN.{length, getD, drop}
+use Rattle.status.specs.Bits.{bitOf, wordOfBits}
+use Rattle.status.proofs.Words.{word-back, word-small, word-none}
+use Rattle.status.proofs.word_of_bits.Statement.{statement}
+use Rattle.status.proofs.word_of_bits.Tie as tie
+
+abbrev Inv-loop : tie.InvT-loop
+Inv-loop bits k₀ w₀ k w = (k ≤ 16) × (w ≡ wordOfBits (drop k bits))
+
+abbrev μ-loop : tie.MeasureT-loop
+μ-loop bits k₀ w₀ k w = k
+
+sixteen : (c : tie.Start Inv-loop μ-loop) → length (c .args .t1) ≡ 16
+sixteen c = omega (arith, c .good)
+
+small : (c : tie.At-loop Inv-loop μ-loop) → c .loop .w < 65536
+small c = omega (arith, c .loop .inv .1, word-small (c .before .args .t1) (sixteen (c .before)) (c .loop .k))
+
+loop-holds : tie.Need-loop-holds Inv-loop μ-loop
+loop-holds c = (omega arith, word-none (c .args .t1) (sixteen c))
+
+sub-k : tie.Need-sub-k Inv-loop μ-loop
+sub-k c = omega arith
+
+array-read-pushed : tie.Need-array-read-pushed Inv-loop μ-loop
+array-read-pushed c = omega arith
+
+pushed-requires : tie.Need-pushed-requires Inv-loop μ-loop
+pushed-requires c κs = small (c .before)
+
+loop-less : tie.Need-loop-less Inv-loop μ-loop
+loop-less c = omega arith
+
+loop-again : tie.Need-loop-again Inv-loop μ-loop
+loop-again c =
+    let s = c .before .before .before in
+    let p = c .before .before .loop in (
+      omega arith,
+      c .pushed .ensures
+          ∙ ap (λ (w : ℕ). bitOf (getD (s .args .t1) (p .k - 1) false) + 2 * w) (p .inv .1)
+          ∙ word-back (s .args .t1) (sixteen s) (p .k) (omega arith) (omega arith),
+    )
+
+cast-result : tie.Need-cast-result Inv-loop μ-loop
+cast-result c = omega (arith, small (c .before))
+
+returns : tie.Need-returns Inv-loop μ-loop
+returns c =
+    let e : c .before .loop .k ≡ 0 = omega arith in
+    c .before .loop .inv .1 ∙ ap (λ (k : ℕ). wordOfBits (drop k (c .before .before .args .t1))) e
+
+pub word-of-bits-spec : {M : Type 1} → statement M
+word-of-bits-spec =
+    tie.close
+    (tie.spec
+    Inv-loop
+    μ-loop
+    loop-holds
+    sub-k
+    array-read-pushed
+    pushed-requires
+    loop-less
+    loop-again
+    cast-result
+    returns)

@@ -1,0 +1,263 @@
+// Checks docs/RULES.md, and what the other pages say of the tree.
+//
+//   rules        (run in the repository's folder)
+//
+// - Every word of document 01 (docs/papers/01-scope.md) is quoted by a row of RULES.md, and every quote is verbatim.
+// - Every quote of documents 01 and 02 in DECISIONS.md is verbatim.
+// - Every row names a definition, a contract or a theorem, or says that it is no rule of behaviour.
+// - Every name in a row, and in an entry's "In the code" of DECISIONS.md, is in the tree: in the place given after it, or anywhere if there is none.
+//
+// A name stands between backticks: `crate::function`, a file's path, or a definition or law, whose place may follow: (crate/specs/File) or
+// "in crates/crate/specs/File.antt".
+use std::collections::BTreeMap;
+use std::fs;
+use std::path::{Path, PathBuf};
+
+struct Tree {
+    // by crate, then by path without its ending (specs/Words, src/lib, must-fail): the names that it defines
+    names: BTreeMap<String, BTreeMap<String, Vec<String>>>,
+}
+
+fn files(at: &Path, out: &mut Vec<PathBuf>) {
+    let mut entries: Vec<_> = fs::read_dir(at).map(|d| d.flatten().map(|e| e.path()).collect()).unwrap_or_default();
+    entries.sort();
+    for path in entries {
+        if path.is_dir() {
+            files(&path, out);
+        } else {
+            out.push(path);
+        }
+    }
+}
+
+// The word at the start of a text, with the signs that names have.
+fn word(text: &str) -> &str {
+    let end = text.find(|c: char| c.is_whitespace() || "(){}:;,<=".contains(c)).unwrap_or(text.len());
+    &text[..end]
+}
+
+fn defined(line: &str, code: bool) -> Option<String> {
+    let mut rest = line.trim_start();
+    let field = rest.len() < line.len();
+    let mut marked = false;
+    while let Some((head, tail)) = rest.split_once(' ') {
+        let skipped = if code { &["pub", "const", "fn", "struct", "enum"][..] } else { &["pub", "abbrev", "unfoldable", "record", "data"][..] };
+        if !skipped.contains(&head) {
+            break;
+        }
+        marked = marked || head != "pub";
+        rest = tail.trim_start();
+    }
+    let name = word(rest);
+    if name.is_empty() || (code && !marked) {
+        return None;
+    }
+    // a definition's or law's type, or the head of a record; a field of a record stands further in
+    let typed = rest[name.len()..].trim_start().starts_with(':') || (!code && marked);
+    if code || (typed && (!field || line.starts_with("  "))) { Some(name.to_string()) } else { None }
+}
+
+fn tree() -> Tree {
+    let mut names = BTreeMap::new();
+    let mut all = Vec::new();
+    files(Path::new("crates"), &mut all);
+    for path in all {
+        let parts: Vec<String> = path.components().map(|c| c.as_os_str().to_string_lossy().into_owned()).collect();
+        let (krate, stem) = (parts[1].clone(), path.file_stem().unwrap().to_string_lossy().into_owned());
+        let ending = path.extension().map(|e| e.to_string_lossy().into_owned()).unwrap_or_default();
+        let places: &mut BTreeMap<String, Vec<String>> = names.entry(krate).or_default();
+        if ending == "edit" {
+            places.entry("must-fail".to_string()).or_default().push(stem);
+        } else if ending == "rt" || ending == "antt" {
+            let text = fs::read_to_string(&path).unwrap_or_default();
+            let place = path.with_extension("").components().skip(2).map(|c| c.as_os_str().to_string_lossy().into_owned()).collect::<Vec<_>>().join("/");
+            places.entry(place).or_default().extend(text.lines().filter_map(|l| defined(l, ending == "rt")));
+        }
+    }
+    Tree { names }
+}
+
+impl Tree {
+    // Whether a crate has a name, in the places that begin so.
+    fn has(&self, krate: &str, begins: &str, name: &str) -> bool {
+        self.names.get(krate).is_some_and(|p| p.iter().any(|(place, names)| place.starts_with(begins) && names.iter().any(|n| n == name)))
+    }
+
+    fn has_anywhere(&self, name: &str) -> bool {
+        self.names.keys().any(|krate| self.has(krate, "", name))
+    }
+
+    // Whether the place (crate, crate/specs, crate/specs/File) has the name; None if there is no such place.
+    fn at(&self, place: &str, name: &str) -> Option<bool> {
+        let (krate, rest) = place.split_once('/').unwrap_or((place, ""));
+        let places = self.names.get(krate)?;
+        if !places.keys().any(|p| p.starts_with(rest)) {
+            return None;
+        }
+        Some(self.has(krate, rest, name))
+    }
+}
+
+// The place that follows a name: the next parenthesis or "in crates/..", before the next semicolon.
+fn place(after: &str) -> Option<String> {
+    let until = after.find(';').unwrap_or(after.len());
+    let near = &after[..until];
+    let paren = near.find('(').and_then(|i| near[i..].find(')').map(|j| (i, near[i + 1..i + j].to_string())));
+    let path = near.find(" in crates/").map(|i| (i, word(&near[i + 11..]).trim_end_matches(['.', ',']).to_string()));
+    let found = match (paren, path) {
+        (Some(a), Some(b)) => if a.0 < b.0 { a.1 } else { b.1 },
+        (Some(a), None) => a.1,
+        (None, Some(b)) => b.1,
+        (None, None) => return None,
+    };
+    let found = found.split(',').next().unwrap_or("").trim().trim_end_matches(".antt").trim_end_matches(".rt").to_string();
+    if found.is_empty() || found.contains(' ') { None } else { Some(found) }
+}
+
+// What is wrong with a name, if anything.
+fn wrong(tree: &Tree, name: &str, after: &str) -> Option<String> {
+    if name.contains('/') || name.starts_with('.') {
+        return if Path::new(name).exists() { None } else { Some(format!("no such file: {name}")) };
+    }
+    if let Some((krate, rest)) = name.split_once("::") {
+        let last = rest.rsplit("::").next().unwrap_or(rest);
+        return if tree.has(krate, "src", last) { None } else { Some(format!("no such function: {name}")) };
+    }
+    if tree.names.contains_key(name) || name.contains(' ') {
+        return None;
+    }
+    if let Some(at) = place(after) {
+        match tree.at(&at, name) {
+            Some(true) => return None,
+            Some(false) => return Some(format!("{name} is not in {at}")),
+            None if at.contains('/') => return Some(format!("no such place: {at}")),
+            None => {}
+        }
+    }
+    if tree.has_anywhere(name) { None } else { Some(format!("no such name: {name}")) }
+}
+
+// The names between backticks of a text, each with what follows it.
+fn quoted(text: &str) -> Vec<(&str, &str)> {
+    let mut out = Vec::new();
+    let mut rest = text;
+    while let Some(i) = rest.find('`') {
+        let Some(j) = rest[i + 1..].find('`') else { break };
+        out.push((&rest[i + 1..i + 1 + j], &rest[i + j + 2..]));
+        rest = &rest[i + j + 2..];
+    }
+    out
+}
+
+fn spaced(text: &str) -> String {
+    text.split_whitespace().collect::<Vec<_>>().join(" ")
+}
+
+// Document 01 as one line, without headings, table rules and table heads.
+fn paper(text: &str) -> String {
+    let lines: Vec<&str> = text.lines().collect();
+    let mut out = String::new();
+    for (i, line) in lines.iter().enumerate() {
+        let head = lines.get(i + 1).is_some_and(|next| next.starts_with("|---"));
+        if line.starts_with('#') || line.starts_with("|---") || head {
+            continue;
+        }
+        out.push_str(&line.strip_prefix("- ").unwrap_or(line).replace('|', " "));
+        out.push(' ');
+    }
+    spaced(&out)
+}
+
+fn quotes(text: &str) -> Vec<String> {
+    text.split('«').skip(1).filter_map(|t| t.split_once('»')).map(|(q, _)| spaced(q)).collect()
+}
+
+// The words of the paper that no quote has, and the quotes that are not in it.
+fn uncovered(paper: &str, quotes: &[String]) -> Vec<String> {
+    let mut left: Vec<u8> = paper.bytes().collect();
+    let mut bad = Vec::new();
+    let mut long: Vec<&String> = quotes.iter().collect();
+    long.sort_by_key(|q| std::cmp::Reverse(q.len()));
+    for quote in long {
+        let mut found = false;
+        for (i, _) in paper.match_indices(quote.as_str()) {
+            found = true;
+            left[i..i + quote.len()].fill(b' ');
+        }
+        if !found {
+            bad.push(format!("not in document 01: «{quote}»"));
+        }
+    }
+    let text = String::from_utf8_lossy(&left).into_owned();
+    for piece in text.split("  ") {
+        if piece.chars().any(char::is_alphabetic) {
+            bad.push(format!("in no row: {}", piece.trim()));
+        }
+    }
+    bad
+}
+
+// The quotes that a page gives of a paper ("document 01: «..»") and that are not in it.
+fn misquoted(page: &str, number: &str, paper: &str) -> Vec<String> {
+    let (text, start) = (spaced(paper), format!("document {number}: «"));
+    let given = page.split(start.as_str()).skip(1).filter_map(|t| t.split_once('»')).map(|(q, _)| spaced(q));
+    given.filter(|q| !text.contains(q.as_str())).map(|q| format!("not in document {number}: «{q}»")).collect()
+}
+
+// A row must name something that is there, or say why it has nothing.
+fn row_is_bare(cells: &[&str]) -> bool {
+    let rest = cells[2..].join(" ");
+    quoted(&rest).is_empty() && !["none;", "with its request", "DECISIONS.md", "rows ", "tests/"].iter().any(|w| rest.contains(w))
+}
+
+fn main() {
+    let tree = tree();
+    let read = |path: &str| fs::read_to_string(path).unwrap_or_default();
+    let (rules, decisions) = (read("docs/RULES.md"), read("docs/DECISIONS.md"));
+    let mut bad = Vec::new();
+    let (mut rows, mut names) = (0, 0);
+    let mut check = |title: &str, text: &str, bad: &mut Vec<String>| {
+        for (name, after) in quoted(text) {
+            names += 1;
+            if let Some(w) = wrong(&tree, name, after) {
+                bad.push(format!("{title}: {w}"));
+            }
+        }
+    };
+    for line in rules.lines().filter(|l| l.starts_with("| ") && !l.starts_with("| No.")) {
+        let cells: Vec<&str> = line.trim_matches('|').split(" | ").map(str::trim).collect();
+        rows += 1;
+        if cells.len() != 4 || row_is_bare(&cells) {
+            bad.push(format!("RULES.md: a row without a name: {}", cells[0]));
+            continue;
+        }
+        check(&format!("RULES.md {}", cells[0]), &cells[2], &mut bad);
+        check(&format!("RULES.md {}", cells[0]), &cells[3], &mut bad);
+    }
+    let mut entry = "";
+    for line in decisions.lines() {
+        if let Some(head) = line.strip_prefix("### ") {
+            entry = head.split('.').next().unwrap_or(head);
+        }
+        if let Some(code) = line.strip_prefix("- **In the code.** ") {
+            check(&format!("DECISIONS.md {entry}"), code, &mut bad);
+        }
+    }
+    for number in rules.split("entry D").skip(1).map(|t| t.chars().take_while(char::is_ascii_digit).collect::<String>()) {
+        if !decisions.contains(&format!("### D{number}.")) && !decisions.contains(&format!("| D{number} |")) {
+            bad.push(format!("RULES.md: no entry D{number}"));
+        }
+    }
+    bad.extend(uncovered(&paper(&read("docs/papers/01-scope.md")), &quotes(&rules)).into_iter().map(|w| format!("RULES.md: {w}")));
+    for (number, path) in [("01", "docs/papers/01-scope.md"), ("02", "docs/papers/02-change-requests.md")] {
+        bad.extend(misquoted(&decisions, number, &read(path)).into_iter().map(|w| format!("DECISIONS.md: {w}")));
+    }
+    if rows < 100 || names < 300 {
+        bad.push(format!("only {rows} rows and {names} names were found: the pages are not in the form that this reads"));
+    }
+    for line in &bad {
+        println!("{line}");
+    }
+    println!("rules: {rows} rows, {names} names, {} wrong", bad.len());
+    std::process::exit(if bad.is_empty() { 0 } else { 1 });
+}
