@@ -1,4 +1,4 @@
-// Checks docs/RULES.md, and what the other pages say of the tree.
+// Checks docs/RULES.md, and what the other pages say of the tree, and its layout.
 //
 //   rules        (run in the repository's folder)
 //
@@ -6,6 +6,9 @@
 // - Every quote of documents 01 and 02 in DECISIONS.md is verbatim.
 // - Every row names a definition, a contract or a theorem, or says that it is no rule of behaviour.
 // - Every name in a row, and in an entry's "In the code" of DECISIONS.md, is in the tree: in the place given after it, or anywhere if there is none.
+//
+// - Every crate has a row in ARCHITECTURE.md; every file of specs/ opens with a comment; no function has 40 lines or more, and no file of code
+//   over 330.
 //
 // A name stands between backticks: `crate::function`, a file's path, or a definition or law, whose place may follow: (crate/specs/File) or
 // "in crates/crate/specs/File.antt".
@@ -210,6 +213,53 @@ fn row_is_bare(cells: &[&str]) -> bool {
     quoted(&rest).is_empty() && !["none;", "with its request", "DECISIONS.md", "rows ", "tests/"].iter().any(|w| rest.contains(w))
 }
 
+// The functions of a file of code that have 40 lines or more.
+fn long_functions(text: &str) -> Vec<String> {
+    let lines: Vec<&str> = text.lines().collect();
+    let mut long = Vec::new();
+    for (i, line) in lines.iter().enumerate() {
+        let start = line.trim_start();
+        let head = start.strip_prefix("pub ").unwrap_or(start);
+        if let Some(rest) = head.strip_prefix("fn ") {
+            let close = format!("{}}}", &line[..line.len() - start.len()]);
+            let size = lines[i..].iter().position(|l| *l == close).map_or(0, |n| n + 1);
+            if size >= 40 {
+                long.push(format!("{} has {size} lines", word(rest)));
+            }
+        }
+    }
+    long
+}
+
+// What is wrong with the layout of the crates.
+fn layout() -> Vec<String> {
+    let mut bad = Vec::new();
+    let page = fs::read_to_string("docs/ARCHITECTURE.md").unwrap_or_default();
+    let table: String = page.lines().filter(|l| l.starts_with("| `")).filter_map(|l| l.split(" | ").next()).collect();
+    for line in fs::read_to_string("crates.txt").unwrap_or_default().lines() {
+        let name = line.split(':').next().unwrap_or("");
+        if !name.is_empty() && !table.contains(&format!("`{name}`")) {
+            bad.push(format!("ARCHITECTURE.md: no row for the crate {name}"));
+        }
+    }
+    let mut all = Vec::new();
+    files(Path::new("crates"), &mut all);
+    for path in all {
+        let text = fs::read_to_string(&path).unwrap_or_default();
+        let shown = path.display();
+        if shown.to_string().contains("/specs/") && !path.ends_with("Lib.antt") && !text.starts_with("-- ") {
+            bad.push(format!("{shown} does not open with a comment"));
+        }
+        if path.extension().is_some_and(|e| e == "rt") {
+            bad.extend(long_functions(&text).into_iter().map(|w| format!("{shown}: {w}")));
+            if text.lines().count() > 330 {
+                bad.push(format!("{shown} has {} lines", text.lines().count()));
+            }
+        }
+    }
+    bad
+}
+
 fn main() {
     let tree = tree();
     let read = |path: &str| fs::read_to_string(path).unwrap_or_default();
@@ -252,6 +302,7 @@ fn main() {
     for (number, path) in [("01", "docs/papers/01-scope.md"), ("02", "docs/papers/02-change-requests.md")] {
         bad.extend(misquoted(&decisions, number, &read(path)).into_iter().map(|w| format!("DECISIONS.md: {w}")));
     }
+    bad.extend(layout());
     if rows < 100 || names < 300 {
         bad.push(format!("only {rows} rows and {names} names were found: the pages are not in the form that this reads"));
     }
