@@ -5,8 +5,7 @@ use mathlib.Core.List.{List, [], _∷_}
 use lib.Dec.{eqb}
 use Rattle.status.specs.Bits.{bitAt}
 use Rattle.registers.specs.Map.{triggersOf, groupEndEvent}
-use Rattle.sequencer.specs.Playing.{isIdle}
-use Rattle.channel_core.specs.Answers.{Answer, isFrame, isReceived}
+use Rattle.channel_core.specs.Answers.{Answer, isFrame}
 use Rattle.channel.specs.OneChannel.{ChannelCall, OneChannel, refusalOf, transition, response}
 use Rattle.channel.specs.OneChannel as call
 
@@ -68,31 +67,9 @@ endsGroup e = cond (isRefused e) false (asksGroupEnd (e .before) (e .call))
 abbrev pub resets : Entry → Bool
 resets e = cond (isRefused e) false (asksReset (e .call))
 
--- it leaves the channel idle, or idled it on the way: a Group End whose event or command then started it again
-abbrev pub idles : Entry → Bool
-idles e = endsGroup e || isIdle (transition (e .before) (e .call) .channel .sequencer .stage)
-
 -- ---- Counted along a history
 
 -- how many ticks answered a frame since the last Group End or reset, and `k` more before the history if it has none
 unfoldable pub framesSince : ℕ → List Entry → ℕ
 framesSince k [] = k
 framesSince k (e ∷ es) = framesSince (cond (endsGroup e || resets e) 0 (cond (isFrame (e .answer)) (k + 1) k)) es
-
--- the last tick that answered a frame since the channel became not idle, if any, and the replies kept or lost after it
-pub record Window : Type 0 where
-  pub sent : Bool
-  pub replies : ℕ
-
-abbrev pub closed : Window
-closed = record { sent = false; replies = 0 }
-
-abbrev pub windowAfter : Window → Entry → Window
-windowAfter w e =
-    cond (idles e) closed
-    (cond (isFrame (e .answer)) (record { sent = true; replies = 0 })
-    (cond (isReceived (e .answer)) (record { sent = w .sent; replies = w .replies + 1 }) w))
-
-unfoldable pub windowSince : Window → List Entry → Window
-windowSince w [] = w
-windowSince w (e ∷ es) = windowSince (windowAfter w e) es

@@ -1,7 +1,7 @@
 -- The sequencer's step at each call, from any state: not refused, then refused or not. Assumes nothing.
 use Prim.Native.Nat.{ℕ, _≤_}
 use mathlib.Core.Path.{_≡_, refl}
-use mathlib.Core.Bool.{Bool, true, false, cond, _&&_}
+use mathlib.Core.Bool.{Bool, true, false, cond, not, _&&_}
 use native.Mathlib.Omega.{arith}
 use lib.Dec.{eqb}
 use Rattle.status.specs.Bits.{bitAt}
@@ -17,24 +17,25 @@ use Rattle.channel.specs.Calls.{registerEffect, readEffect, mainTaken, armedOf,
 use Rattle.channel.specs.OneChannel.{ChannelCall, OneChannel, effect, answer, transition, response, mainRead, mainAnswer, userChange}
 use Rattle.channel.specs.OneChannel as call
 use Rattle.channel.specs.History.{entry, asksGroupEnd, asksReset, endsGroup, resets}
+use Rattle.histories.specs.Windows.{asksIdle, stops}
 use Rattle.histories.proofs.Keeps.{keeps-armed, keeps-event, keeps-command}
 use Rattle.histories.proofs.Cases.{either, by-offset}
 use Rattle.histories.proofs.Refusing.{by-refusal}
 use Rattle.histories.proofs.Steps.{Plain, Steps, keeps-steps, kept-steps, same-steps, idle-steps, tick-steps, reply-steps}
 
-reset-if : (n : ℕ) (c : Channel) (on : Bool) → Steps n (c .sequencer) ans.done false on (cond on (reset c) c .sequencer)
+reset-if : (n : ℕ) (c : Channel) (on : Bool) → Steps n (c .sequencer) ans.done false on false (cond on (reset c) c .sequencer)
 unfolding reset
 reset-if n c true = idle-steps n (c .sequencer) false true
 reset-if n c false = same-steps n c ans.done (c .sequencer) (refl, refl) refl
 
 register-steps : (n : ℕ) (c : Channel) (offset value : ℕ)
-    → Steps n (c .sequencer) ans.done (eqb offset 0x08 && bitAt value 2) (eqb offset 0x06 && bitAt value 0)
+    → Steps n (c .sequencer) ans.done (eqb offset 0x08 && bitAt value 2) (eqb offset 0x06 && bitAt value 0) false
     (registerEffect c offset value .sequencer)
 unfolding registerEffect
 register-steps n c offset value =
     by-offset
     (λ (x : ℕ).
-    Steps n (c .sequencer) ans.done (eqb x 0x08 && bitAt value 2) (eqb x 0x06 && bitAt value 0) (registerEffect c x value .sequencer))
+    Steps n (c .sequencer) ans.done (eqb x 0x08 && bitAt value 2) (eqb x 0x06 && bitAt value 0) false (registerEffect c x value .sequencer))
     offset
     (same-steps n c ans.done (c .sequencer) (refl, refl) refl)
     (reset-if n c (bitAt value 0))
@@ -68,12 +69,12 @@ main-plain c offset = go (eqb offset 0x28) (eqb offset 0x2a)
     go false true = (refl, refl)
     go false false = (refl, refl)
 
-user-steps : (o : OneChannel) (user : ℕ) → Steps (o .n) (o .channel .sequencer) ans.done false false (userChange o user .channel .sequencer)
+user-steps : (o : OneChannel) (user : ℕ) → Steps (o .n) (o .channel .sequencer) ans.done false false (not (eqb user (o .user))) (userChange o user .channel .sequencer)
 unfolding userChanged idled
 user-steps o user = go (eqb user (o .user))
   where
     go : (b : Bool)
-        → Steps (o .n) (o .channel .sequencer) ans.done false false
+        → Steps (o .n) (o .channel .sequencer) ans.done false false (not b)
         (cond b o (call.withUser o user (userChanged (o .channel))) .channel .sequencer)
     go true = same-steps (o .n) (o .channel) ans.done (o .channel .sequencer) (refl, refl) refl
     go false = idle-steps (o .n) (o .channel .sequencer) (o .channel .sequencer .armed) false
@@ -89,7 +90,7 @@ period-some clock = go (eqb clock 0) (eqb clock 1) (eqb clock 2)
 
 -- what a call does that is not refused
 effect-steps : (o : OneChannel) (k : ChannelCall)
-    → Steps (o .n) (o .channel .sequencer) (answer o k) (asksGroupEnd o k) (asksReset k) (effect o k .channel .sequencer)
+    → Steps (o .n) (o .channel .sequencer) (answer o k) (asksGroupEnd o k) (asksReset k) (asksIdle o k) (effect o k .channel .sequencer)
 unfolding effect answer armedOf disarmedOf disarmed tickOf tickAnswer
 effect-steps o (call.writeRegister lent offset value) = register-steps (o .n) (o .channel) offset value
 effect-steps o (call.readRegister offset) = same-steps (o .n) (o .channel) _ _ (refl, refl) (read-sequencer (o .channel) offset)
@@ -112,8 +113,8 @@ effect-steps o (call.readMain offset) =
 
 -- any call
 pub steps : (o : OneChannel) (k : ChannelCall)
-    → Steps (o .n) (o .channel .sequencer) (response o k) (endsGroup (entry o k)) (resets (entry o k)) (transition o k .channel .sequencer)
+    → Steps (o .n) (o .channel .sequencer) (response o k) (endsGroup (entry o k)) (resets (entry o k)) (stops (entry o k)) (transition o k .channel .sequencer)
 steps o k =
-    by-refusal (λ (x : OneChannel) (a : Answer) (b c : Bool). Steps (o .n) (o .channel .sequencer) a b c (x .channel .sequencer)) o k
+    by-refusal (λ (x : OneChannel) (a : Answer) (b c d : Bool). Steps (o .n) (o .channel .sequencer) a b c d (x .channel .sequencer)) o k
     (λ e. effect-steps o k)
     (same-steps (o .n) (o .channel) _ _ (refl, refl) refl)

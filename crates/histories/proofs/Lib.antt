@@ -6,8 +6,13 @@ pub mod Ticks
 pub mod Steps
 pub mod Calls
 pub mod Counting
+pub mod Leaves
 pub mod Showing
 pub mod Windows
-pub mod Replying
 pub mod Parts
 pub mod Ranges
+pub mod Statuses
+pub mod Buffers
+pub mod Holding
+pub mod Keeping
+pub mod Replying

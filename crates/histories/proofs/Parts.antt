@@ -1,10 +1,11 @@
 -- Status, registers and stored readback counts stay in range through what a channel does. Assumes nothing.
-use Prim.Native.Nat.{ℕ, suc, _+_, _≤_}
-use mathlib.Core.Path.{_≡_, refl, _∙_, ap}
+use Prim.Native.Nat.{ℕ, zero, suc, _+_, _≤_}
+use mathlib.Core.Path.{_≡_, refl, sym, _∙_, ap}
 use mathlib.Core.Bool.{Bool, true, false}
 use mathlib.Core.List.{List, [], _∷_}
 use native.Mathlib.Omega.{arith}
-use lib.ListN.{length, length-set}
+use lib.ListN.{length, getD, set, replicate, length-set}
+use lib.Seq.{getD-set-other}
 use lib.Dec.{eqb, ltb}
 use borrow.Author.Tests.{ltb-true}
 use Rattle.frame.specs.Frames.{Reading, read, crcRight}
@@ -12,7 +13,7 @@ use Rattle.frame.specs.Frames as frame
 use Rattle.status.specs.declared.Status.{Status}
 use Rattle.status.specs.Latching.{latched, groupEnd, earlyEnd, run, crcError}
 use Rattle.registers.specs.declared.Registers.{Registers}
-use Rattle.registers.specs.Map.{stored, flips}
+use Rattle.registers.specs.Map.{periodOf, stored, flips}
 use Rattle.registers.specs.Map as reg
 use Rattle.sequencer.specs.declared.Sequencer.{Sequencer}
 use Rattle.sequencer.specs.declared.Transmission.{Transmission}
@@ -24,27 +25,50 @@ use Rattle.readback.specs.declared.Disposition.the-variants as disposition
 use Rattle.readback.specs.Storing.{keptIn, capacity}
 use Rattle.channel_core.specs.declared.Channel.{Channel}
 use Rattle.channel_core.specs.State.{opened, reset, withStatus, withRegisters, withSequencer, conditionLatched}
-use Rattle.channel_core.specs.Behaviour.{started, startedIf, endedIf, resumedIf, resumedOn, eventOf, commanded, groupEnded, earlyEnded, userChanged, sendStatus, playedOf, tickOf, crcStatus, dispositionNow, receivedChannel, replyAs, replyOf}
+use Rattle.channel_core.specs.Behaviour.{started, startedIf, endedIf, resumedIf, resumedOn, eventOf, commanded, groupEnded, earlyEnded, userChanged, sendStatus, dueOf, playedOf, tickOf, crcStatus, dispositionNow, receivedChannel, replyAs, replyOf}
 use Rattle.histories.proofs.Cases.{either, by-test}
-use Rattle.histories.specs.Ranges.{StatusInRange, RegistersInRange, ReadbacksInRange, ChannelInRange}
+use Rattle.channel.proofs.Ranges.{clash}
+use Rattle.histories.proofs.Ticks.{Latching, plays-ticked}
+use Rattle.histories.specs.Statuses.{isCondition}
+use Rattle.histories.specs.Ranges.{BitsInRange, StatusInRange, RegistersInRange, ReadbacksInRange, ChannelInRange}
 
 -- ---- Status
 
-pub latched-range : (s : Status) (bit : ℕ) → StatusInRange s → StatusInRange (latched s bit)
+none-set : (n k : ℕ) → getD (replicate n false) k false ≡ false
+none-set zero k = refl
+none-set (suc n) zero = refl
+none-set (suc n) (suc k) = none-set n k
+
+pub none-range : BitsInRange (replicate 16 false)
+none-range = record { long = refl; rest = λ k e. none-set 16 k }
+
+set-range : (l : List Bool) (bit : ℕ) → isCondition bit ≡ true → BitsInRange l → BitsInRange (set l bit true)
+set-range l bit c h =
+    record {
+      long = simp length-set (h .long);
+      rest = λ k e. getD-set-other l bit k true false (λ d. clash (sym e ∙ ap isCondition d ∙ c)) ∙ h .rest k e;
+    }
+
+latched-range : (s : Status) (bit : ℕ) → isCondition bit ≡ true → StatusInRange s → StatusInRange (latched s bit)
 unfolding latched
-latched-range s bit h =
-    record { interrupt = simp length-set (h .interrupt); polling = simp length-set (h .polling) }
+latched-range s bit c h =
+    record {
+      enable = h .enable;
+      interrupt = set-range (s .interrupt .bits) bit c (h .interrupt);
+      polling = set-range (s .polling .bits) bit c (h .polling);
+    }
 
 early-range : (s : Status) (q : Sequencer) → StatusInRange s → StatusInRange (earlyEnded s q)
-early-range s q h = either StatusInRange (unfinished q) (latched s earlyEnd) s (latched-range s earlyEnd h) h
+early-range s q h = either StatusInRange (unfinished q) (latched s earlyEnd) s (latched-range s earlyEnd refl h) h
 
-send-range : (s : Status) (x : Transmission) → StatusInRange s → StatusInRange (sendStatus s x)
-send-range s transmission.Nothing h = h
-send-range s (transmission.Word word k) h = either StatusInRange (eqb k 0) s (latched s k) h (latched-range s k h)
+send-range : (s : Status) (x : Transmission) → Latching x → StatusInRange s → StatusInRange (sendStatus s x)
+send-range s transmission.Nothing l h = h
+send-range s (transmission.Word word k) l h =
+    by-test StatusInRange (eqb k 0) s (latched s k) (λ e. h) (λ e. latched-range s k (rw e at l) h)
 
 crc-range : (s : Status) (right : Bool) → StatusInRange s → StatusInRange (crcStatus s right)
 crc-range s true h = h
-crc-range s false h = latched-range s crcError h
+crc-range s false h = latched-range s crcError refl h
 
 -- ---- Registers
 
@@ -102,7 +126,7 @@ module _ (m : ℕ) where
   unfolding opened
   opened-range =
       record {
-        status = record { interrupt = refl; polling = refl };
+        status = record { enable = refl; interrupt = none-range; polling = none-range };
         registers = record { clock = omega arith; active = refl; events = refl; switches = refl; delays = refl };
         readbacks = record { stored = omega arith; retired = omega arith };
       }
@@ -111,7 +135,7 @@ module _ (m : ℕ) where
   unfolding opened reset
   reset-range c =
       record {
-        status = record { interrupt = refl; polling = refl };
+        status = record { enable = refl; interrupt = none-range; polling = none-range };
         registers = opened-range .registers;
         readbacks = opened-range .readbacks;
       }
@@ -122,14 +146,14 @@ module _ (m : ℕ) where
       either (ChannelInRange m) (c .sequencer .armed) _ c
       (with-sequencer _ _
       (either (ChannelInRange m) (isIdle (c .sequencer .stage)) (conditionLatched c run) c
-      (with-status c _ (latched-range (c .status) run (h .status)) h) h))
+      (with-status c _ (latched-range (c .status) run refl (h .status)) h) h))
       h
 
   group-range : (c : Channel) → ChannelInRange m c → ChannelInRange m (groupEnded c)
   unfolding groupEnded
   group-range c h =
       record {
-        status = latched-range _ groupEnd (early-range (c .status) (c .sequencer) (h .status));
+        status = latched-range _ groupEnd refl (early-range (c .status) (c .sequencer) (h .status));
         registers = group-registers (c .registers) (c .sequencer .count) (h .registers);
         readbacks = record { stored = omega arith; retired = h .readbacks .stored };
       }
@@ -163,7 +187,8 @@ module _ (m : ℕ) where
   pub tick-range : (c : Channel) (s : List ℕ) (n user : ℕ) → ChannelInRange m c → ChannelInRange m (tickOf c s n user)
   unfolding tickOf
   tick-range c s n user h =
-      with-sequencer _ _ (with-status c _ (send-range (c .status) (playedOf c s n user .transmission) (h .status)) h)
+      let l = plays-ticked (c .sequencer) (dueOf c s n user) n (periodOf (c .registers .clock)) .latches in
+      with-sequencer _ _ (with-status c _ (send-range (c .status) (playedOf c s n user .transmission) l (h .status)) h)
 
   kept-range : (r : Readbacks) → ReadbacksInRange m r → ReadbacksInRange m (keptIn r m)
   kept-range r h =

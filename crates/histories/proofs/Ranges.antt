@@ -12,6 +12,7 @@ use Rattle.frame.specs.Frames as frame
 use Rattle.register_map.specs.AccessRule.{channelAccess}
 use Rattle.register_map.specs.Verdicts.{writeRefusal}
 use Rattle.status.specs.Bits.{bitAt}
+use Rattle.status.proofs.Laws.{enable-drops}
 use Rattle.readback.specs.declared.Disposition.{Disposition}
 use Rattle.readback.specs.declared.Disposition.the-variants as disposition
 use Rattle.channel_core.specs.declared.Channel.{Channel}
@@ -26,16 +27,15 @@ use Rattle.histories.specs.Ranges.{SequencerInRange, ChannelInRange, InR
 use Rattle.histories.proofs.Cases.{either}
 use Rattle.histories.proofs.Calls.{steps}
 use Rattle.histories.proofs.Depths.{depths-step}
-use Rattle.histories.proofs.Parts.{stored-range, with-status, with-registers, with-sequencer, opened-range, reset-range, event-range, command-range, user-range, tick-range, reply-range}
+use Rattle.histories.proofs.Parts.{none-range, stored-range, with-status, with-registers, with-sequencer, opened-range, reset-range, event-range, command-range, user-range, tick-range, reply-range}
 use Rattle.histories.proofs.Refusing.{by-refusal}
 
--- what is in range but for the sequencer
-record Fits (o : OneChannel) : Type 0 where
-  user-from : 1 ≤ o .user
-  user-to : o .user ≤ 8
-  channel : ChannelInRange (o .m) (o .channel)
-  setpoint-words : length (o .setpoints) ≡ o .n * 16
-  readback-words : length (o .readbacks) ≡ o .m * 2
+-- what a call leaves in range but for the sequencer, from any state, and the lengths that it leaves
+pub record Stays (o x : OneChannel) : Type 0 where
+  pub user : (1 ≤ o .user) × (o .user ≤ 8) → (1 ≤ x .user) × (x .user ≤ 8)
+  pub channel : ChannelInRange (o .m) (o .channel) → ChannelInRange (o .m) (x .channel)
+  pub setpoint-words : length (x .setpoints) ≡ length (o .setpoints)
+  pub readback-words : length (x .readbacks) ≡ length (o .readbacks)
 
 -- ---- Refusals that were passed
 
@@ -60,7 +60,8 @@ register-range : (m : ℕ) (c : Channel) (offset value : ℕ) → registerRefusa
 unfolding registerEffect
 register-range m c offset value e h =
     let P = ChannelInRange m in
-    either P (eqb offset 0x00) _ _ (with-status m c _ (record { interrupt = h .status .interrupt; polling = h .status .polling }) h)
+    either P (eqb offset 0x00) _ _
+    (with-status m c _ (record { enable = enable-drops value; interrupt = h .status .interrupt; polling = h .status .polling }) h)
     (either P (eqb offset 0x06) _ _ (either P (bitAt value 0) _ c (reset-range m c) h)
     (either P (eqb offset 0x08) _ _ (command-range m c value h)
     (with-registers m c _ (stored-range (c .registers) offset value (clock-passed offset value e) (h .registers)) h)))
@@ -69,13 +70,13 @@ read-range : (m : ℕ) (c : Channel) (offset : ℕ) → ChannelInRange m c → C
 unfolding readEffect
 read-range m c offset h =
     let P = ChannelInRange m in
-    either P (eqb offset 0x02) _ _ (with-status m c _ (record { interrupt = refl; polling = h .status .polling }) h)
-    (either P (eqb offset 0x04) _ _ (with-status m c _ (record { interrupt = h .status .interrupt; polling = refl }) h) h)
+    either P (eqb offset 0x02) _ _ (with-status m c _ (record { enable = h .status .enable; interrupt = none-range; polling = h .status .polling }) h)
+    (either P (eqb offset 0x04) _ _ (with-status m c _ (record { enable = h .status .enable; interrupt = h .status .interrupt; polling = none-range }) h) h)
 
 taken-range : (m : ℕ) (c : Channel) (polling : Bool) → ChannelInRange m c → ChannelInRange m (mainTaken c polling)
 unfolding mainTaken
-taken-range m c true h = with-status m c _ (record { interrupt = h .status .interrupt; polling = h .status .polling }) h
-taken-range m c false h = with-status m c _ (record { interrupt = h .status .interrupt; polling = h .status .polling }) h
+taken-range m c true h = with-status m c _ (record { enable = h .status .enable; interrupt = h .status .interrupt; polling = h .status .polling }) h
+taken-range m c false h = with-status m c _ (record { enable = h .status .enable; interrupt = h .status .interrupt; polling = h .status .polling }) h
 
 main-range : (m : ℕ) (c : Channel) (offset : ℕ) → ChannelInRange m c → ChannelInRange m (mainRead c offset)
 main-range m c offset h =
@@ -115,90 +116,77 @@ reply-long c s m user f = go (read f)
 
 -- ---- Each call
 
-with-channel : (o : OneChannel) (c : Channel) → Fits o → ChannelInRange (o .m) c → Fits (withChannel o c)
-with-channel o c h k =
-    record {
-      user-from = h .user-from;
-      user-to = h .user-to;
-      channel = k;
-      setpoint-words = h .setpoint-words;
-      readback-words = h .readback-words;
-    }
+all-stays : (o : OneChannel) → Stays o o
+all-stays o = record { user = λ u. u; channel = λ h. h; setpoint-words = refl; readback-words = refl }
 
-with-readbacks : (o : OneChannel) (c : Channel) (s : List ℕ) → Fits o → ChannelInRange (o .m) c → Long (o .readbacks) s → Fits (withReadbacks o c s)
-with-readbacks o c s h k l =
-    record {
-      user-from = h .user-from;
-      user-to = h .user-to;
-      channel = k;
-      setpoint-words = h .setpoint-words;
-      readback-words = l ∙ h .readback-words;
-    }
+channel-stays : (o : OneChannel) (c : Channel) → (ChannelInRange (o .m) (o .channel) → ChannelInRange (o .m) c) → Stays o (withChannel o c)
+channel-stays o c f = record { user = λ u. u; channel = f; setpoint-words = refl; readback-words = refl }
 
-user-fits : (o : OneChannel) (user : ℕ) → userRefusal user ≡ 0 → Fits o → Fits (call.userChange o user)
-user-fits o user e h = go (eqb user (o .user))
+readbacks-stay : (o : OneChannel) (c : Channel) (s : List ℕ) → (ChannelInRange (o .m) (o .channel) → ChannelInRange (o .m) c)
+    → Long (o .readbacks) s → Stays o (withReadbacks o c s)
+readbacks-stay o c s f l = record { user = λ u. u; channel = f; setpoint-words = refl; readback-words = l }
+
+user-stays : (o : OneChannel) (user : ℕ) → userRefusal user ≡ 0 → Stays o (call.userChange o user)
+user-stays o user e = go (eqb user (o .user))
   where
-    go : (b : Bool) → Fits (cond b o (withUser o user (userChanged (o .channel))))
-    go true = h
+    go : (b : Bool) → Stays o (cond b o (withUser o user (userChanged (o .channel))))
+    go true = all-stays o
     go false =
-        let a = passed (outside 1 8 user) 2 0 refl e .0 in
-        let u = inside 1 8 user a in
         record {
-          user-from = u .0;
-          user-to = u .1;
-          channel = user-range (o .m) (o .channel) (h .channel);
-          setpoint-words = h .setpoint-words;
-          readback-words = h .readback-words;
+          user = λ u. inside 1 8 user (passed (outside 1 8 user) 2 0 refl e .0);
+          channel = user-range (o .m) (o .channel);
+          setpoint-words = refl;
+          readback-words = refl;
         }
 
-effect-fits : (o : OneChannel) (k : ChannelCall) → refusalOf o k ≡ 0 → Fits o → Fits (effect o k)
+effect-stays : (o : OneChannel) (k : ChannelCall) → refusalOf o k ≡ 0 → Stays o (effect o k)
 unfolding refusalOf effect armedOf disarmedOf eventWords
-effect-fits o (call.writeRegister lent offset value) e h =
+effect-stays o (call.writeRegister lent offset value) e =
     let f = then-passed (lengthRefusal lent (o .m * 8)) (registerRefusal offset value) e .1 in
-    with-readbacks o _ _ h (register-range (o .m) (o .channel) offset value f (h .channel))
-    (register-long (o .channel) (o .readbacks) (o .m) offset value)
-effect-fits o (call.readRegister offset) e h = with-channel o _ h (read-range (o .m) (o .channel) offset (h .channel))
-effect-fits o (call.writeSetpoint lent user buffer index word) e h =
+    readbacks-stay o _ _ (register-range (o .m) (o .channel) offset value f) (register-long (o .channel) (o .readbacks) (o .m) offset value)
+effect-stays o (call.readRegister offset) e = channel-stays o _ (read-range (o .m) (o .channel) offset)
+effect-stays o (call.writeSetpoint lent user buffer index word) e =
     record {
-      user-from = h .user-from;
-      user-to = h .user-to;
-      channel = h .channel;
-      setpoint-words = setpoint-long (o .channel) (o .setpoints) (o .n) user buffer index word ∙ h .setpoint-words;
-      readback-words = h .readback-words;
+      user = λ u. u;
+      channel = λ h. h;
+      setpoint-words = setpoint-long (o .channel) (o .setpoints) (o .n) user buffer index word;
+      readback-words = refl;
     }
-effect-fits o call.arm e h = with-channel o _ h (with-sequencer (o .m) (o .channel) _ (h .channel))
-effect-fits o call.disarm e h = with-channel o _ h (with-sequencer (o .m) (o .channel) _ (h .channel))
-effect-fits o (call.reply lent f) e h =
-    with-readbacks o _ _ h (reply-range (o .m) (o .channel) f (h .channel)) (reply-long (o .channel) (o .readbacks) (o .m) (o .user) f)
-effect-fits o (call.retired one two) e h = h
-effect-fits o (call.retiredLength one two) e h = h
-effect-fits o (call.tick lent) e h = with-channel o _ h (tick-range (o .m) (o .channel) (o .setpoints) (o .n) (o .user) (h .channel))
-effect-fits o (call.event lent code) e h =
-    with-readbacks o _ _ h (event-range (o .m) (o .channel) (o .user) code (h .channel)) (ended-long _ (o .channel) (o .readbacks) (o .m))
-effect-fits o (call.changeUser user) e h = user-fits o user e h
-effect-fits o (call.writeMain lent offset value) e h = h
-effect-fits o (call.readMain offset) e h = with-channel o _ h (main-range (o .m) (o .channel) offset (h .channel))
+effect-stays o call.arm e = channel-stays o _ (with-sequencer (o .m) (o .channel) _)
+effect-stays o call.disarm e = channel-stays o _ (with-sequencer (o .m) (o .channel) _)
+effect-stays o (call.reply lent f) e =
+    readbacks-stay o _ _ (reply-range (o .m) (o .channel) f) (reply-long (o .channel) (o .readbacks) (o .m) (o .user) f)
+effect-stays o (call.retired one two) e = all-stays o
+effect-stays o (call.retiredLength one two) e = all-stays o
+effect-stays o (call.tick lent) e = channel-stays o _ (tick-range (o .m) (o .channel) (o .setpoints) (o .n) (o .user))
+effect-stays o (call.event lent code) e =
+    readbacks-stay o _ _ (event-range (o .m) (o .channel) (o .user) code) (ended-long _ (o .channel) (o .readbacks) (o .m))
+effect-stays o (call.changeUser user) e = user-stays o user e
+effect-stays o (call.writeMain lent offset value) e = all-stays o
+effect-stays o (call.readMain offset) e = channel-stays o _ (main-range (o .m) (o .channel) offset)
 
-fits-step : (o : OneChannel) (k : ChannelCall) → Fits o → Fits (transition o k)
-fits-step o k h =
-    by-refusal (λ (x : OneChannel) (a : Answer) (b c : Bool). Fits x) o k (λ e. effect-fits o k (eqb-true (refusalOf o k) 0 e) h) h
+pub stays : (o : OneChannel) (k : ChannelCall) → Stays o (transition o k)
+stays o k =
+    by-refusal (λ (x : OneChannel) (a : Answer) (b c d : Bool). Stays o x) o k (λ e. effect-stays o k (eqb-true (refusalOf o k) 0 e)) (all-stays o)
 
 -- ---- Lists of calls
+
+-- what holds of a channel but for its sequencer, whatever the depths and lengths
+pub channel-step : (o : OneChannel) (k : ChannelCall) → ChannelInRange (o .m) (o .channel)
+    → ChannelInRange (transition o k .m) (transition o k .channel)
+channel-step o k r = subst (λ (m : ℕ). ChannelInRange m (transition o k .channel)) (sym (depths-step o k .1)) (stays o k .channel r)
+
+pub channel-from : (o : OneChannel) (ks : List ChannelCall) → ChannelInRange (o .m) (o .channel)
+    → ChannelInRange (transitions o ks .m) (transitions o ks .channel)
+channel-from o [] r = r
+channel-from o (k ∷ ks) r = channel-from (transition o k) ks (channel-step o k r)
 
 -- one call keeps all in range
 pub range-step : CallKeepsRange
 range-step o k h =
-    let n = depths-step o k .0 in
-    let f =
-    fits-step o k
-    (record {
-      user-from = h .user-from;
-      user-to = h .user-to;
-      channel = h .channel;
-      setpoint-words = h .setpoint-words;
-      readback-words = h .readback-words;
-    })
-    in
+    let d = depths-step o k in
+    let f = stays o k in
+    let u = f .user (h .user-from, h .user-to) in
     let q : SequencerInRange (o .n) (transition o k .channel .sequencer) =
     record {
       playing = steps o k .playing-step (h .depth) (h .sequencer .playing);
@@ -207,14 +195,14 @@ range-step o k h =
     }
     in
     record {
-      depth = rw n (h .depth);
-      readback-depth = rw (depths-step o k .1) (h .readback-depth);
-      user-from = f .user-from;
-      user-to = f .user-to;
-      channel = f .channel;
-      sequencer = subst (λ (x : ℕ). SequencerInRange x (transition o k .channel .sequencer)) (sym n) q;
-      setpoint-words = f .setpoint-words;
-      readback-words = f .readback-words;
+      depth = rw (d .0) (h .depth);
+      readback-depth = rw (d .1) (h .readback-depth);
+      user-from = u .0;
+      user-to = u .1;
+      channel = channel-step o k (h .channel);
+      sequencer = subst (λ (x : ℕ). SequencerInRange x (transition o k .channel .sequencer)) (sym (d .0)) q;
+      setpoint-words = f .setpoint-words ∙ h .setpoint-words ∙ ap (λ (x : ℕ). x * 16) (sym (d .0));
+      readback-words = f .readback-words ∙ h .readback-words ∙ ap (λ (x : ℕ). x * 2) (sym (d .1));
     }
 
 pub range-from : (o : OneChannel) (ks : List ChannelCall) → InRange o → InRange (transitions o ks)

@@ -5,16 +5,13 @@ use mathlib.Core.Bool.{Bool, true, false, _&&_}
 use native.Mathlib.Omega.{arith}
 use lib.Dec.{eqb}
 use Rattle.status.specs.Bits.{bitAt}
-use Rattle.status.specs.Latching.{run}
 use Rattle.register_map.specs.AccessRule.{channelAccess}
-use Rattle.sequencer.specs.Playing.{isIdle}
-use Rattle.channel_core.specs.State.{conditionLatched}
 use Rattle.registers.specs.declared.Registers.{Registers}
 use Rattle.registers.specs.Map.{triggersOf, groupEndEvent, loaded}
 use Rattle.registers.specs.Map as reg
 use Rattle.channel_core.specs.declared.Channel.{Channel}
 use Rattle.channel_core.specs.Answers.{Answer, value}
-use Rattle.channel_core.specs.Behaviour.{started, startedIf, endedIf, resumedIf, resumedOn, groupEnded, eventOf, commanded}
+use Rattle.channel_core.specs.Behaviour.{endedIf, groupEnded, eventOf, commanded}
 use Rattle.channel.specs.Calls.{registerEffect, readValue}
 use Rattle.channel.specs.OneChannel.{ChannelCall, OneChannel, oneChannel, refusalOf, effect, answer, transition, response, transitions, readRegister}
 use Rattle.channel.specs.OneChannel as call
@@ -22,24 +19,9 @@ use Rattle.channel.specs.History.{entry, history, asksGroupEnd, endsGroup, fram
 use Rattle.channel.proofs.Ranges.{clash}
 use Rattle.histories.specs.Counting.{mostCounted, ShowsFrames}
 use Rattle.histories.proofs.Counting.{counts-frames}
-use Rattle.histories.proofs.Cases.{either, by-offset}
+use Rattle.histories.proofs.Cases.{by-offset}
+use Rattle.histories.proofs.Leaves.{leaves-event, leaves-command}
 use Rattle.histories.proofs.Refusing.{by-refusal}
-
--- ---- Start and Resume leave the registers
-
--- a channel with these registers
-abbrev Has : Registers → Channel → Type 0
-Has r c = c .registers ≡ r
-
-started-registers : (on : Bool) (c : Channel) (delay : ℕ) → startedIf on c delay .registers ≡ c .registers
-unfolding startedIf started
-started-registers true c delay =
-    either (Has (c .registers)) (c .sequencer .armed) _ c (either (Has (c .registers)) (isIdle (c .sequencer .stage)) (conditionLatched c run) c refl refl) refl
-started-registers false c delay = refl
-
-resumed-registers : (on : Bool) (c : Channel) (pause delay : ℕ) → resumedIf on c pause delay .registers ≡ c .registers
-unfolding resumedIf
-resumed-registers on c pause delay = either (Has (c .registers)) on _ c refl refl
 
 ended-shown : (on : Bool) (c : Channel) → on ≡ true → endedIf on c .registers .shown ≡ c .sequencer .count
 unfolding endedIf groupEnded reg.groupEnded
@@ -48,16 +30,10 @@ ended-shown false c e = clash e
 
 event-shown : (c : Channel) (user code : ℕ) → triggersOf (c .registers) groupEndEvent code ≡ true
     → eventOf c user code .registers .shown ≡ c .sequencer .count
-unfolding eventOf resumedOn
-event-shown c user code e =
-    ap (λ (r : Registers). r .shown)
-    (resumed-registers _ _ _ _ ∙ resumed-registers _ _ _ _ ∙ resumed-registers _ _ _ _ ∙ resumed-registers _ _ _ _ ∙ started-registers _ _ _)
-    ∙ ended-shown _ c e
+event-shown c user code e = ap (λ (r : Registers). r .shown) (leaves-event c user code .registers) ∙ ended-shown _ c e
 
 command-shown : (c : Channel) (word : ℕ) → bitAt word 2 ≡ true → commanded c word .registers .shown ≡ c .sequencer .count
-unfolding commanded
-command-shown c word e =
-    ap (λ (r : Registers). r .shown) (resumed-registers _ _ _ _ ∙ started-registers _ _ _) ∙ ended-shown (bitAt word 2) c e
+command-shown c word e = ap (λ (r : Registers). r .shown) (leaves-command c word .registers) ∙ ended-shown (bitAt word 2) c e
 
 register-shown : (c : Channel) (offset word : ℕ) → (eqb offset 0x08 && bitAt word 2) ≡ true
     → registerEffect c offset word .registers .shown ≡ c .sequencer .count
@@ -88,7 +64,7 @@ effect-shown o (call.readMain offset) e = clash e
 pub shown-step : (o : OneChannel) (k : ChannelCall) → endsGroup (entry o k) ≡ true
     → transition o k .channel .registers .shown ≡ o .channel .sequencer .count
 shown-step o k =
-    by-refusal (λ (x : OneChannel) (a : Answer) (b c : Bool). b ≡ true → x .channel .registers .shown ≡ o .channel .sequencer .count) o k
+    by-refusal (λ (x : OneChannel) (a : Answer) (b c d : Bool). b ≡ true → x .channel .registers .shown ≡ o .channel .sequencer .count) o k
     (λ e. effect-shown o k) (λ e. clash e)
 
 reads-high : (o : OneChannel) → response o (readRegister 0x10) ≡ value (o .channel .registers .shown / 65536 % 256)

@@ -1,7 +1,7 @@
 -- One call's step of the sequencer, whatever the call: its count, its last send, its countdowns. Assumes nothing.
 use Prim.Native.Nat.{ℕ, _+_, _≤_}
 use mathlib.Core.Path.{_≡_, refl, sym, _∙_, ap, subst}
-use mathlib.Core.Bool.{Bool, true, false, cond, _||_, _&&_}
+use mathlib.Core.Bool.{Bool, true, false, cond, not, _||_, _&&_, or-not-self}
 use native.Mathlib.Omega.{arith}
 use lib.Dec.{ltb}
 use borrow.Author.Tests.{ltb-true}
@@ -24,11 +24,11 @@ use Rattle.channel_core.specs.declared.Channel.{Channel}
 use Rattle.channel_core.specs.Answers.{Answer, isFrame, isReceived}
 use Rattle.channel_core.specs.Answers as ans
 use Rattle.channel_core.specs.Behaviour.{endedIf, groupEnded, sendFrame, dispositionNow, receiptAnswer, receivedChannel, replyAs, replyAnswerAs, replyOf, replyAnswer}
-use Rattle.channel.specs.History.{Window}
 use Rattle.channel.proofs.Ranges.{clash}
+use Rattle.histories.specs.Windows.{Window, closed}
 use Rattle.histories.specs.Ranges.{UnderWay, Quiet}
 use Rattle.histories.proofs.Keeps.{Keeps, keeps-all}
-use Rattle.histories.proofs.Ticks.{windowOf, windowSent, plays-ticked}
+use Rattle.histories.proofs.Ticks.{sendWindow, windowOf, windowSent, plays-ticked}
 
 -- what an answer adds to the window
 abbrev pub observed : Answer → Window → Window
@@ -36,12 +36,11 @@ observed a w =
     cond (isFrame a) (record { sent = true; replies = 0 })
     (cond (isReceived a) (record { sent = w .sent; replies = w .replies + 1 }) w)
 
--- from s to t by a call with this answer, that is a Group End or not, a reset or not
-pub record Steps (n : ℕ) (s : Sequencer) (a : Answer) (ends again : Bool) (t : Sequencer) : Type 0 where
+-- from s to t by a call with this answer, that is a Group End or not, a reset or not, and idles otherwise or not
+pub record Steps (n : ℕ) (s : Sequencer) (a : Answer) (ends again stops : Bool) (t : Sequencer) : Type 0 where
   pub count-step : t .count ≡ cond (ends || again) 0 (cond (isFrame a) (counted (s .count)) (s .count))
   pub quiet-step : Quiet s → Quiet t
-  pub ended-step : ends ≡ true → t .last ≡ nothingSent
-  pub open-step : isIdle (t .stage) ≡ false → ends ≡ false → windowOf t ≡ observed a (windowOf s)
+  pub window-step : windowOf t ≡ cond (ends || (again || stops)) closed (observed a (windowOf s))
   pub replies-step : s .last .replies ≤ 6 → t .last .replies ≤ 6
   pub playing-step : 1 ≤ n → UnderWay n s → UnderWay n t
 
@@ -54,14 +53,13 @@ observed-plain a w h = rw (h .0, h .1)
 
 -- kept, but for what a Group End before it did
 pub keeps-steps : (n : ℕ) (c : Channel) (a : Answer) (on : Bool) (t : Sequencer) → Plain a → Keeps (endedIf on c .sequencer) t
-    → Steps n (c .sequencer) a on false t
+    → Steps n (c .sequencer) a on false false t
 unfolding endedIf groupEnded seq.groupEnded
 keeps-steps n c a true t h k =
     record {
       count-step = k .count-kept;
       quiet-step = λ q e. k .last-kept;
-      ended-step = λ e. k .last-kept;
-      open-step = λ e f. clash (sym f);
+      window-step = ap sendWindow (k .last-kept);
       replies-step = λ e. omega (arith, ap (λ (l : LastSend). l .replies) (k .last-kept));
       playing-step = λ e p. k .playing-kept n e (record { index-due = e; countdown = tt });
     }
@@ -69,34 +67,29 @@ keeps-steps n c a false t h k =
     record {
       count-step = k .count-kept ∙ sym (ap (λ (b : Bool). cond b (counted (c .sequencer .count)) (c .sequencer .count)) (h .0));
       quiet-step = λ q e. k .last-kept ∙ q (k .idle-kept e);
-      ended-step = λ e. clash e;
-      open-step =
-          λ e f.
-          ap (λ (l : LastSend). let w : Window = record { sent = l .sent; replies = l .replies } in w) (k .last-kept)
-          ∙ sym (observed-plain a (windowOf (c .sequencer)) h);
+      window-step = ap sendWindow (k .last-kept) ∙ sym (observed-plain a (windowOf (c .sequencer)) h);
       replies-step = λ e. omega (arith, ap (λ (l : LastSend). l .replies) (k .last-kept));
       playing-step = λ e p. k .playing-kept n e p;
     }
 
-pub kept-steps : (n : ℕ) (c : Channel) (a : Answer) (t : Sequencer) → Plain a → Keeps (c .sequencer) t → Steps n (c .sequencer) a false false t
+pub kept-steps : (n : ℕ) (c : Channel) (a : Answer) (t : Sequencer) → Plain a → Keeps (c .sequencer) t → Steps n (c .sequencer) a false false false t
 unfolding endedIf
 kept-steps n c a t h k = keeps-steps n c a false t h k
 
 -- a call that leaves the sequencer
-pub same-steps : (n : ℕ) (c : Channel) (a : Answer) (t : Sequencer) → Plain a → t ≡ c .sequencer → Steps n (c .sequencer) a false false t
+pub same-steps : (n : ℕ) (c : Channel) (a : Answer) (t : Sequencer) → Plain a → t ≡ c .sequencer → Steps n (c .sequencer) a false false false t
 same-steps n c a t h e =
-    subst (λ (x : Sequencer). Steps n (c .sequencer) a false false x) (sym e) (kept-steps n c a (c .sequencer) h (keeps-all (c .sequencer)))
+    subst (λ (x : Sequencer). Steps n (c .sequencer) a false false false x) (sym e) (kept-steps n c a (c .sequencer) h (keeps-all (c .sequencer)))
 
 -- disarmed, the user changed, or reset: idle, with nothing sent
 pub idle-steps : (n : ℕ) (s : Sequencer) (armed again : Bool)
-    → Steps n s ans.done false again
+    → Steps n s ans.done false again (not again)
     (record { armed = armed; stage = stage.Idle; left = 0; resume = 0; index = 0; word = 0; last = nothingSent; count = cond again 0 (s .count) })
 idle-steps n s armed again =
     record {
       count-step = refl;
       quiet-step = λ q e. refl;
-      ended-step = λ e. clash e;
-      open-step = λ e f. clash (sym e);
+      window-step = sym (ap (λ (b : Bool). cond b closed (windowOf s)) (or-not-self again));
       replies-step = λ e. omega arith;
       playing-step = λ e p. record { index-due = e; countdown = tt };
     }
@@ -116,15 +109,14 @@ window-few transmission.Nothing w h = h
 window-few (transmission.Word word k) w h = omega arith
 
 pub tick-steps : (n : ℕ) (s : Sequencer) (r : Registers) (due p : ℕ) → 1 ≤ p
-    → Steps n s (sendFrame r (ticked s due n p .transmission)) false false (ticked s due n p .sequencer)
+    → Steps n s (sendFrame r (ticked s due n p .transmission)) false false false (ticked s due n p .sequencer)
 tick-steps n s r due p some =
     let x = ticked s due n p .transmission in
     let a = plays-ticked s due n p in
     record {
       count-step = counts s due n p ∙ count-frame r x (s .count);
       quiet-step = a .stays-quiet;
-      ended-step = λ e. clash e;
-      open-step = λ e f. a .window ∙ window-frame r x (windowOf s);
+      window-step = a .window ∙ window-frame r x (windowOf s);
       replies-step = λ e. omega (arith, ap (λ (w : Window). w .replies) (a .window), window-few x (windowOf s) e);
       playing-step = λ e p. a .plays some p;
     }
@@ -141,35 +133,34 @@ due-facts false l e = (refl, go (l .sent) e)
     go false f = clash f
 
 answered-steps : (n : ℕ) (s : Sequencer) (a : Answer) → isFrame a ≡ false → isReceived a ≡ true
-    → isDue (isIdle (s .stage)) (s .last) ≡ true → Steps n s a false false (answered s)
+    → isDue (isIdle (s .stage)) (s .last) ≡ true → Steps n s a false false false (answered s)
 unfolding answered
 answered-steps n s a plain received e =
     let d = due-facts (isIdle (s .stage)) (s .last) e in
     record {
       count-step = sym (ap (λ (b : Bool). cond b (counted (s .count)) (s .count)) plain);
       quiet-step = λ q f. clash (sym (d .0) ∙ f);
-      ended-step = λ f. clash f;
-      open-step = λ f g. rw (plain, received, d .1);
+      window-step = rw (plain, received, d .1);
       replies-step = λ f. rw (d .1) (omega (arith, ltb-true (s .last .replies) 6 (d .1)));
       playing-step = λ f p. record { index-due = p .index-due; countdown = p .countdown };
     }
 
 disposition-steps : (n : ℕ) (c : Channel) (m : ℕ) (right : Bool)
-    → Steps n (c .sequencer) (receiptAnswer (dispositionNow c m)) false false (receivedChannel (dispositionNow c m) c m right .sequencer)
+    → Steps n (c .sequencer) (receiptAnswer (dispositionNow c m)) false false false (receivedChannel (dispositionNow c m) c m right .sequencer)
 unfolding dispositionNow dispositionOf
 disposition-steps n c m right = go (isDue (isIdle (c .sequencer .stage)) (c .sequencer .last)) (ltb (c .readbacks .stored) (capacity m)) refl
   where
     go : (due space : Bool) → isDue (isIdle (c .sequencer .stage)) (c .sequencer .last) ≡ due
         → let d : Disposition = cond due (cond space disposition.Kept disposition.Lost) disposition.Unsolicited in
-        Steps n (c .sequencer) (receiptAnswer d) false false (receivedChannel d c m right .sequencer)
+        Steps n (c .sequencer) (receiptAnswer d) false false false (receivedChannel d c m right .sequencer)
     go true true e = answered-steps n (c .sequencer) ans.kept refl refl e
     go true false e = answered-steps n (c .sequencer) ans.lost refl refl e
     go false space e = same-steps n c ans.unsolicited (c .sequencer) (refl, refl) refl
 
-pub reply-steps : (n : ℕ) (c : Channel) (m f : ℕ) → Steps n (c .sequencer) (replyAnswer c m f) false false (replyOf c m f .sequencer)
+pub reply-steps : (n : ℕ) (c : Channel) (m f : ℕ) → Steps n (c .sequencer) (replyAnswer c m f) false false false (replyOf c m f .sequencer)
 unfolding replyAnswer replyOf
 reply-steps n c m f = go (read f)
   where
-    go : (g : Reading) → Steps n (c .sequencer) (replyAnswerAs g c m) false false (replyAs g c m .sequencer)
+    go : (g : Reading) → Steps n (c .sequencer) (replyAnswerAs g c m) false false false (replyAs g c m .sequencer)
     go (frame.refused k) = same-steps n c (ans.refused k) (c .sequencer) (refl, refl) refl
     go (frame.fields id word aux crc) = disposition-steps n c m (crcRight id word aux crc)

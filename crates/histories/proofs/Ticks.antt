@@ -1,36 +1,47 @@
 -- A tick: what it sends is the last send, it idles nothing, and it keeps the countdowns and the index due in range. Assumes nothing.
 use Prim.Native.Nat.{ℕ, _+_, _-_, _≤_, _<_}
 use mathlib.Core.Path.{_≡_, refl, sym, _∙_, ap}
-use mathlib.Core.Bool.{Bool, true, false, cond}
+use mathlib.Core.Bool.{Bool, true, false, cond, _||_, or-true}
 use native.Mathlib.Omega.{arith}
-use lib.Dec.{leb}
-use borrow.Author.Tests.{leb-false}
+use lib.Dec.{eqb, leb}
+use borrow.Author.Tests.{le-leb, leb-false}
 use Rattle.status.specs.Bits.{bitAt}
-use Rattle.sequencer.specs.Words.{atEnd, kindOf, stageAfter, indexAfter}
+use Rattle.sequencer.specs.Words.{atEnd, kindOf, stageAfter, indexAfter, conditionOf}
 use Rattle.sequencer.specs.declared.Kind.{Kind}
 use Rattle.sequencer.specs.declared.Kind.the-variants as kind
 use Rattle.sequencer.specs.declared.Stage.{Stage}
 use Rattle.sequencer.specs.declared.Stage.the-variants as stage
+use Rattle.sequencer.specs.declared.LastSend.{LastSend}
 use Rattle.sequencer.specs.declared.Sequencer.{Sequencer}
 use Rattle.sequencer.specs.declared.Transmission.{Transmission}
 use Rattle.sequencer.specs.declared.Transmission.the-variants as transmission
 use Rattle.sequencer.specs.declared.Ticked.{Ticked}
 use Rattle.sequencer.specs.Playing.{isIdle, quiet, withLeft, withResume, sentAs, sentNext, repeated, advancing, repeating, resuming, tickedAt, ticked}
-use Rattle.channel.specs.History.{Window}
 use Rattle.channel.proofs.Ranges.{clash}
+use Rattle.histories.specs.Windows.{Window}
+use Rattle.histories.specs.Statuses.{isCondition}
 use Rattle.histories.specs.Ranges.{CountdownInRange, UnderWay, Quiet}
 use Rattle.histories.proofs.Cases.{either, by-test}
 
 -- the last send, if any, and the replies after it, as the sequencer holds them
+abbrev pub sendWindow : LastSend → Window
+sendWindow l = record { sent = l .sent; replies = l .replies }
+
 abbrev pub windowOf : Sequencer → Window
-windowOf s = record { sent = s .last .sent; replies = s .last .replies }
+windowOf s = sendWindow (s .last)
 
 abbrev pub windowSent : Transmission → Window → Window
 windowSent transmission.Nothing w = w
 windowSent (transmission.Word word condition) w = record { sent = true; replies = 0 }
 
+-- what a send latches, if anything: a condition of the status
+abbrev pub Latching : Transmission → Type 0
+Latching transmission.Nothing = Unit {0}
+Latching (transmission.Word word condition) = (eqb condition 0 || isCondition condition) ≡ true
+
 pub record Plays (n p : ℕ) (s : Sequencer) (t : Ticked) : Type 0 where
   pub window : windowOf (t .sequencer) ≡ windowSent (t .transmission) (windowOf s)
+  pub latches : Latching (t .transmission)
   pub stays-quiet : Quiet s → Quiet (t .sequencer)
   pub plays : 1 ≤ p → UnderWay n s → UnderWay n (t .sequencer)
 
@@ -83,6 +94,12 @@ sent-countdown end p kind.Plain a h = h
 sent-countdown end p (kind.Pause k) a h = (h, a .1)
 sent-countdown end p kind.Last a h = h
 
+sent-latches : (end : Bool) (k : Kind) → Asks end k → (eqb (conditionOf k) 0 || isCondition (conditionOf k)) ≡ true
+sent-latches end kind.Plain a = refl
+sent-latches end (kind.Pause k) a =
+    rw (le-leb 7 (7 + k) (omega arith), le-leb (7 + k) 15 (omega (arith, a .1)), or-true, or-true)
+sent-latches end kind.Last a = refl
+
 plays-sent : (s : Sequencer) (due n p : ℕ) → Plays n p s (sentNext s due n p)
 unfolding sentNext sentAs
 plays-sent s due n p =
@@ -90,6 +107,7 @@ plays-sent s due n p =
     let a = asks due (atEnd n (s .index)) in
     record {
       window = refl;
+      latches = sent-latches (atEnd n (s .index)) k a;
       stays-quiet = λ q e. clash (sym (after-busy k) ∙ e);
       plays =
           λ h c.
@@ -105,6 +123,7 @@ plays-wait : (s : Sequencer) (n p l : ℕ) → 1 ≤ l → Plays n p s (quiet (w
 plays-wait s n p l h =
     record {
       window = refl;
+      latches = tt;
       stays-quiet = λ q. q;
       plays =
           λ g c.
@@ -125,6 +144,7 @@ plays-repeating s n p busy =
     (λ e.
     record {
       window = refl;
+      latches = refl;
       stays-quiet = λ q i. clash (sym busy ∙ i);
       plays =
           λ g c.
@@ -137,6 +157,7 @@ plays-resume : (s : Sequencer) (n p r : ℕ) (t : Ticked) → 1 ≤ r → Plays 
 plays-resume s n p r t h a =
     record {
       window = a .window;
+      latches = a .latches;
       stays-quiet = a .stays-quiet;
       plays =
           λ g c.
@@ -145,7 +166,7 @@ plays-resume s n p r t h a =
     }
 
 plays-quiet : (s : Sequencer) (n p : ℕ) → Plays n p s (quiet s)
-plays-quiet s n p = record { window = refl; stays-quiet = λ q. q; plays = λ g c. c }
+plays-quiet s n p = record { window = refl; latches = tt; stays-quiet = λ q. q; plays = λ g c. c }
 
 plays-resuming : (s : Sequencer) (due n p : ℕ) → isIdle (s .stage) ≡ false → Plays n p s (resuming s due n p)
 unfolding resuming

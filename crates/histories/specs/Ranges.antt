@@ -1,9 +1,10 @@
 -- What a channel's state keeps to, over any list of calls: so no default past a list's end or below a range is ever used.
 use Prim.Native.Nat.{ℕ, _*_, _≤_, _<_}
 use mathlib.Core.Path.{_≡_}
-use mathlib.Core.Bool.{true}
+use mathlib.Core.Bool.{Bool, true, false}
 use mathlib.Core.List.{List}
-use lib.ListN.{length}
+use lib.ListN.{length, getD}
+use Rattle.status.specs.Bits.{bitAt}
 use Rattle.status.specs.declared.Status.{Status}
 use Rattle.registers.specs.declared.Registers.{Registers}
 use Rattle.sequencer.specs.declared.Stage.{Stage}
@@ -13,6 +14,7 @@ use Rattle.sequencer.specs.Playing.{isIdle, nothingSent}
 use Rattle.readback.specs.declared.Readbacks.{Readbacks}
 use Rattle.channel_core.specs.declared.Channel.{Channel}
 use Rattle.channel.specs.OneChannel.{ChannelCall, OneChannel, oneChannel, transition, transitions}
+use Rattle.histories.specs.Statuses.{isCondition}
 
 -- the ticks to the next send, and those of a resume, while there are any to count; pauses are 0 (VME) to 4
 abbrev pub CountdownInRange : Stage → ℕ → ℕ → Type 0
@@ -36,9 +38,15 @@ pub record SequencerInRange (n : ℕ) (s : Sequencer) : Type 0 where
   pub replies : s .last .replies ≤ 6
   pub quiet : Quiet s
 
+-- one copy of the status: sixteen bits, set only where there is a condition
+pub record BitsInRange (bits : List Bool) : Type 0 where
+  pub long : length bits ≡ 16
+  pub rest : (k : ℕ) → isCondition k ≡ false → getD bits k false ≡ false
+
 pub record StatusInRange (s : Status) : Type 0 where
-  pub interrupt : length (s .interrupt .bits) ≡ 16
-  pub polling : length (s .polling .bits) ≡ 16
+  pub enable : bitAt (s .enable) 3 ≡ false
+  pub interrupt : BitsInRange (s .interrupt .bits)
+  pub polling : BitsInRange (s .polling .bits)
 
 pub record RegistersInRange (r : Registers) : Type 0 where
   pub clock : r .clock ≤ 3

@@ -25,13 +25,13 @@ use Rattle.isolation.proofs.Events.{good-first}
 
 -- ---- The board
 
-record Shape (b b' : Board) : Type 0 where
-  n : b' .n ≡ b .n
-  m : b' .m ≡ b .m
-  channels : length (b' .channels) ≡ length (b .channels)
+pub record Shape (b b' : Board) : Type 0 where
+  pub n : b' .n ≡ b .n
+  pub m : b' .m ≡ b .m
+  pub channels : length (b' .channels) ≡ length (b .channels)
 
 module _ (b : Board) where
-  same : Shape b b
+  pub same : Shape b b
   same = record { n = refl; m = refl; channels = refl }
 
   write-at : (a : Named) (v : ℕ) → Shape b (writeBoardAt a b v)
@@ -54,7 +54,7 @@ module _ (b : Board) where
   read-at (channel d o) = record { n = refl; m = refl; channels = simp length-set }
   read-at nothing = same
 
-  shape : (x : Call) (l : Lent) → Shape b (after b x l)
+  pub shape : (x : Call) (l : Lent) → Shape b (after b x l)
   unfolding after calls.writeBoard calls.readBoard calls.armBoard calls.disarmBoard calls.replyBoard calls.tickBoard calls.eventBoard eventBoards eventBoardAt calls.userBoard changedAt
   shape (writeRegister a v) l =
       cond-case (Shape b) (readbacksFit b (length (first l))) (λ t. write-at (named a) v) (λ t. same)

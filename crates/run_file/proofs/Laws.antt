@@ -26,16 +26,16 @@ more-is : (test : Bool) (n : ℕ) → n < 4294967295 → more test n ≡ bitOf t
 more-is true n h = rw (lt-ltb n 4294967295 h) (omega arith)
 more-is false n h = omega arith
 
-many-append : (test : BoardAnswer → Bool) (xs ys : List BoardAnswer) → howMany test (xs ++ ys) ≡ howMany test xs + howMany test ys
+pub many-append : {A : Type 0} (test : A → Bool) (xs ys : List A) → howMany test (xs ++ ys) ≡ howMany test xs + howMany test ys
 unfolding howMany
 many-append test [] ys = omega arith
 many-append test (x ∷ xs) ys = rw (many-append test xs ys) (omega arith)
 
-small : (b : Bool) → bitOf b ≤ 1
+pub small : (b : Bool) → bitOf b ≤ 1
 small true = omega arith
 small false = omega arith
 
-many-le : (test : BoardAnswer → Bool) (xs : List BoardAnswer) → howMany test xs ≤ length xs
+pub many-le : {A : Type 0} (test : A → Bool) (xs : List A) → howMany test xs ≤ length xs
 unfolding howMany
 many-le test [] = omega arith
 many-le test (x ∷ xs) = let e = many-le test xs in omega (arith, small (test x))

@@ -1,3 +1,4 @@
 pub mod Turns
 pub mod Few
 pub mod Laws
+pub mod Lines

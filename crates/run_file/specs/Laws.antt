@@ -1,4 +1,5 @@
--- What the log line's counts are, against the answers that the board's calls gave along the run. proofs/Laws.antt shows it for every file that is not refused.
+-- Document 01, 'Run file and log line': what the log line's counts are, against the answers that the board's calls gave along the run, for every
+-- file that is not refused (proofs/Laws.antt); and that the line tells them (proofs/Lines.antt).
 use Prim.Native.Nat.{ℕ, _+_}
 use mathlib.Core.Path.{_≡_}
 use mathlib.Core.Bool.{Bool}
@@ -8,10 +9,10 @@ use Rattle.board.specs.Answers.{BoardAnswer, refuses}
 use Rattle.records.specs.Files.{count, recordsPart}
 use Rattle.tally.specs.declared.Counts.{Counts}
 use Rattle.tally.specs.Tallies.{firstSends, secondSends, thirdSends, fourthSends}
-use Rattle.run_file.specs.Runs.{start, answersAlong}
+use Rattle.run_file.specs.Runs.{start, answersAlong, runOf, runLine}
 
 -- how many answers pass a test
-unfoldable pub howMany : (BoardAnswer → Bool) → List BoardAnswer → ℕ
+unfoldable pub howMany : {A : Type 0} → (A → Bool) → List A → ℕ
 howMany test [] = 0
 howMany test (x ∷ xs) = bitOf (test x) + howMany test xs
 
@@ -27,3 +28,7 @@ pub record Drawn (file : List ℕ) (c : Counts) : Type 0 where
   pub second : c .second ≡ howMany secondSends (answersOf file)
   pub third : c .third ≡ howMany thirdSends (answersOf file)
   pub fourth : c .fourth ≡ howMany fourthSends (answersOf file)
+
+-- two files that print the same line ran alike: the six counts, or refused
+abbrev pub RunLineTells : Type 0
+RunLineTells = (file file' : List ℕ) → runLine file ≡ runLine file' → runOf file ≡ runOf file'

@@ -1,0 +1,214 @@
+-- The stored readbacks are the words of the replies that were answered kept, and the retired part those of the group before. Assumes nothing.
+use Prim.Native.Nat.{ℕ, _*_}
+use mathlib.Core.Path.{_≡_, refl, sym, _∙_, ap, subst, subst₂}
+use mathlib.Core.Bool.{Bool, true, false, cond, not, _&&_}
+use mathlib.Core.List.{List, [], _∷_}
+use lib.ListN.{length, getD}
+use lib.Dec.{eqb, ltb}
+use borrow.Author.Tests.{eq-eqb}
+use Rattle.frame.specs.Frames.{Reading, read, crcRight}
+use Rattle.frame.specs.Frames as frame
+use Rattle.status.specs.Bits.{bitAt}
+use Rattle.registers.specs.declared.Registers.{Registers}
+use Rattle.registers.specs.Map.{secondActive, readbackPlace, triggersOf, groupEndEvent, stored}
+use Rattle.registers.proofs.Laws.{readbacks-switch}
+use Rattle.sequencer.specs.Playing.{isIdle}
+use Rattle.readback.specs.declared.Readbacks.{Readbacks}
+use Rattle.readback.specs.declared.Disposition.{Disposition}
+use Rattle.readback.specs.declared.Disposition.the-variants as disposition
+use Rattle.readback.specs.Storing.{dispositionOf, isDue, capacity, storedWord}
+use Rattle.readback.specs.Storing as rb
+use Rattle.channel_core.specs.declared.Channel.{Channel}
+use Rattle.channel_core.specs.State as state
+use Rattle.channel_core.specs.State.{reset}
+use Rattle.channel_core.specs.Answers.{Answer, part, partLength}
+use Rattle.channel_core.specs.Answers as ans
+use Rattle.channel_core.specs.Behaviour.{userChanged, groupEnded, groupWords, endedIf, endedWords, eventWords, commandWords, tickOf, dispositionNow, receiptAnswer, receivedChannel, receivedWords, replyAnswerAs, replyAs, replyWordsAs, replyAnswer, replyOf, replyWords}
+use Rattle.channel.specs.Calls.{registerEffect, registerWords, armedOf, disarmedOf}
+use Rattle.channel.specs.OneChannel.{ChannelCall, OneChannel, effect, answer, transition, response, transitions, mainAnswer, withUser, userChange, oneChannel, refusalOf, retiredOf}
+use Rattle.channel.specs.OneChannel as call
+use Rattle.channel.specs.History.{entry, history, asksGroupEnd, asksReset}
+use Rattle.histories.specs.Ranges.{ChannelInRange}
+use Rattle.histories.specs.Keeping.{isKept, replyWord, callWord, Kept, nothingKept, switched, keptWith, keptAfter, keptSince, CountsKept, RetiresKept, keptOver}
+use Rattle.histories.proofs.Cases.{either, by-offset}
+use Rattle.histories.proofs.Refusing.{by-refusal, accepted-response}
+use Rattle.histories.proofs.Depths.{depths-kept}
+use Rattle.histories.proofs.Leaves.{Leaves, leaves-all, leaves-event, leaves-command, leaves-read, leaves-main}
+use Rattle.histories.proofs.Buffers.{front-retired}
+use Rattle.histories.proofs.Ranges.{stays, channel-step, channel-from}
+use Rattle.histories.proofs.Parts.{opened-range}
+use Rattle.histories.proofs.Holding.{Holds, HoldsIn, holds-ended, holds-kept, holds-none, holds-opened}
+
+-- ---- Each call
+
+-- what is kept by a call with this answer, that is a Group End or not, a reset or not, and would store these words
+abbrev keptBy : Kept → Answer → Bool → Bool → List ℕ → Kept
+keptBy g a ends again words = cond again nothingKept (cond ends (switched g) (keptWith g (cond (isKept a) words [])))
+
+stored-active : (r : Registers) (offset value : ℕ) → stored r offset value .active ≡ r .active
+unfolding stored
+stored-active r offset value =
+    let P : Registers → Type 0 = λ x. x .active ≡ r .active in
+    either P (eqb offset 0x0a) _ _ refl
+    (either P (eqb offset 0x14) _ _ refl
+    (either P (ltb offset 0x20) _ _ refl
+    (either P (ltb offset 0x2c) _ _ refl
+    (either P (ltb offset 0x30) _ _ refl
+    (either P (ltb offset 0x40) _ _ refl (either P (ltb offset 0xe0) _ r refl refl))))))
+
+module _ (g : Kept) where
+  -- a channel over these words
+  abbrev HoldsOver : ℕ → List ℕ → Kept → Channel → Type 0
+  HoldsOver m s t c = Holds m (secondActive (c .registers) readbackPlace) (c .readbacks) s t
+
+  same : (o : OneChannel) → HoldsIn o g → HoldsOver (o .m) (o .readbacks) (keptWith g []) (o .channel)
+  same o h = holds-none (o .m) (o .channel .readbacks) (o .readbacks) g _ h
+
+  leaves-holds : (m : ℕ) (s : List ℕ) (t : Kept) {c d : Channel} → Leaves c d → HoldsOver m s t c → HoldsOver m s t d
+  leaves-holds m s t l h =
+      subst₂ (λ (r : Registers) (b : Readbacks). Holds m (secondActive r readbackPlace) b s t) (sym (l .registers)) (sym (l .readbacks)) h
+
+  ended-holds : (o : OneChannel) (on : Bool) → ChannelInRange (o .m) (o .channel) → HoldsIn o g
+      → HoldsOver (o .m) (endedWords on (o .channel) (o .readbacks) (o .m)) (cond on (switched g) (keptWith g [])) (endedIf on (o .channel))
+  unfolding endedIf endedWords groupEnded groupWords
+  ended-holds o true k h =
+      subst (λ (b : Bool). Holds (o .m) b (rb.groupEnded (o .channel .readbacks)) (groupWords (o .channel) (o .readbacks) (o .m)) (switched g))
+      (sym (readbacks-switch (o .channel .registers) (o .channel .sequencer .count) (k .registers .active) (k .registers .switches)))
+      (holds-ended (o .m) (o .channel .readbacks) (o .readbacks) g _ h)
+  ended-holds o false k h = same o h
+
+  reset-holds : (o : OneChannel) (on : Bool) → HoldsIn o g
+      → HoldsOver (o .m) (o .readbacks) (cond on nothingKept (keptWith g [])) (cond on (reset (o .channel)) (o .channel))
+  unfolding reset
+  reset-holds o true h = holds-opened (o .m) (o .readbacks)
+  reset-holds o false h = same o h
+
+  register-holds : (o : OneChannel) (offset value : ℕ) → ChannelInRange (o .m) (o .channel) → HoldsIn o g
+      → HoldsOver (o .m) (registerWords (o .channel) (o .readbacks) (o .m) offset value)
+      (keptBy g ans.done (eqb offset 0x08 && bitAt value 2) (eqb offset 0x06 && bitAt value 0) [])
+      (registerEffect (o .channel) offset value)
+  unfolding registerEffect registerWords commandWords
+  register-holds o offset value k h =
+      by-offset
+      (λ (x : ℕ).
+      HoldsOver (o .m) (registerWords (o .channel) (o .readbacks) (o .m) x value)
+      (keptBy g ans.done (eqb x 0x08 && bitAt value 2) (eqb x 0x06 && bitAt value 0) [])
+      (registerEffect (o .channel) x value))
+      offset
+      (same o h)
+      (reset-holds o (bitAt value 0) h)
+      (leaves-holds (o .m) _ _ (leaves-command (o .channel) value) (ended-holds o (bitAt value 2) k h))
+      (λ d e f.
+      rw (d, e, f)
+      (subst (λ (a : List Bool). Holds (o .m) (getD a readbackPlace false) (o .channel .readbacks) (o .readbacks) (keptWith g []))
+      (sym (stored-active (o .channel .registers) offset value)) (same o h)))
+
+  disposition-holds : (o : OneChannel) (id word aux crc : ℕ) → ChannelInRange (o .m) (o .channel) → HoldsIn o g
+      → HoldsOver (o .m) (replyWordsAs (frame.fields id word aux crc) (o .channel) (o .readbacks) (o .m) (o .user))
+      (keptWith g (cond (isKept (receiptAnswer (dispositionNow (o .channel) (o .m)))) (replyWord o (frame.fields id word aux crc)) []))
+      (replyAs (frame.fields id word aux crc) (o .channel) (o .m))
+  unfolding dispositionNow dispositionOf
+  disposition-holds o id word aux crc k h =
+      go (isDue (isIdle (o .channel .sequencer .stage)) (o .channel .sequencer .last)) (ltb (o .channel .readbacks .stored) (capacity (o .m))) refl
+    where
+      x : ℕ
+      x = storedWord (o .channel .sequencer .last) (o .user) (not (crcRight id word aux crc)) id word
+
+      go : (due space : Bool) → ltb (o .channel .readbacks .stored) (capacity (o .m)) ≡ space
+          → let d : Disposition = cond due (cond space disposition.Kept disposition.Lost) disposition.Unsolicited in
+          HoldsOver (o .m) (receivedWords d (o .channel) (o .readbacks) (o .m) x) (keptWith g (cond (isKept (receiptAnswer d)) (x ∷ []) []))
+          (receivedChannel d (o .channel) (o .m) (crcRight id word aux crc))
+      go true true e = holds-kept (o .m) (o .channel .readbacks) (o .readbacks) g _ x e (k .readbacks .retired) h
+      go true false e = same o h
+      go false space e = same o h
+
+  reply-holds : (o : OneChannel) (f : ℕ) → ChannelInRange (o .m) (o .channel) → HoldsIn o g
+      → HoldsOver (o .m) (replyWords (o .channel) (o .readbacks) (o .m) (o .user) f)
+      (keptWith g (cond (isKept (replyAnswer (o .channel) (o .m) f)) (replyWord o (read f)) []))
+      (replyOf (o .channel) (o .m) f)
+  unfolding replyWords replyAnswer replyOf
+  reply-holds o f k h = go (read f)
+    where
+      go : (q : Reading)
+          → HoldsOver (o .m) (replyWordsAs q (o .channel) (o .readbacks) (o .m) (o .user))
+          (keptWith g (cond (isKept (replyAnswerAs q (o .channel) (o .m))) (replyWord o q) []))
+          (replyAs q (o .channel) (o .m))
+      go (frame.refused j) = same o h
+      go (frame.fields id word aux crc) = disposition-holds o id word aux crc k h
+
+  -- a call that stores no word, whatever it answers
+  plain : (o : OneChannel) (b : Bool) (c : Channel) → Leaves (o .channel) c → HoldsIn o g → HoldsOver (o .m) (o .readbacks) (keptWith g (cond b [] [])) c
+  plain o b c l h =
+      leaves-holds (o .m) (o .readbacks) (keptWith g (cond b [] [])) l
+      (either (λ (t : List ℕ). HoldsIn o (keptWith g t)) b [] [] (same o h) (same o h))
+
+  user-holds : (o : OneChannel) (user : ℕ) → HoldsIn o g → HoldsIn (userChange o user) (keptWith g [])
+  unfolding userChanged
+  user-holds o user h = go (eqb user (o .user))
+    where
+      go : (b : Bool) → HoldsIn (cond b o (withUser o user (userChanged (o .channel)))) (keptWith g [])
+      go true = same o h
+      go false = same o h
+
+  effect-holds : (o : OneChannel) (k : ChannelCall) → ChannelInRange (o .m) (o .channel) → HoldsIn o g
+      → HoldsIn (effect o k) (keptBy g (answer o k) (asksGroupEnd o k) (asksReset k) (callWord o k))
+  unfolding effect answer armedOf disarmedOf tickOf eventWords
+  effect-holds o (call.writeRegister lent offset value) r h = register-holds o offset value r h
+  effect-holds o (call.readRegister offset) r h = plain o false _ (leaves-read (o .channel) offset) h
+  effect-holds o (call.writeSetpoint lent user buffer index word) r h = same o h
+  effect-holds o call.arm r h = same o h
+  effect-holds o call.disarm r h = same o h
+  effect-holds o (call.reply lent f) r h = reply-holds o f r h
+  effect-holds o (call.retired one two) r h = same o h
+  effect-holds o (call.retiredLength one two) r h = same o h
+  effect-holds o (call.tick lent) r h = plain o (isKept (answer o (call.tick lent))) (o .channel) (leaves-all (o .channel)) h
+  effect-holds o (call.event lent code) r h =
+      leaves-holds (o .m) _ _ (leaves-event (o .channel) (o .user) code)
+      (ended-holds o (triggersOf (o .channel .registers) groupEndEvent code) r h)
+  effect-holds o (call.changeUser user) r h = user-holds o user h
+  effect-holds o (call.writeMain lent offset value) r h = same o h
+  effect-holds o (call.readMain offset) r h =
+      plain o (isKept (mainAnswer (o .channel) offset)) _ (leaves-main (o .channel) offset) h
+
+  holds-step : (o : OneChannel) (k : ChannelCall) → ChannelInRange (o .m) (o .channel) → HoldsIn o g
+      → HoldsIn (transition o k) (keptAfter g (entry o k))
+  holds-step o k r h =
+      by-refusal (λ (x : OneChannel) (a : Answer) (ends again stops : Bool). HoldsIn x (keptBy g a ends again (callWord o k))) o k
+      (λ e. effect-holds o k r h) (same o h)
+
+-- ---- Lists of calls
+
+holds-from : (o : OneChannel) (ks : List ChannelCall) (g : Kept) → ChannelInRange (o .m) (o .channel) → HoldsIn o g
+    → HoldsIn (transitions o ks) (keptSince g (history o ks))
+unfolding keptSince
+holds-from o [] g r h = h
+holds-from o (k ∷ ks) g r h = holds-from (transition o k) ks (keptAfter g (entry o k)) (channel-step o k r) (holds-step g o k r h)
+
+pub counts-kept : CountsKept
+unfolding state.opened
+counts-kept n m setpoints readbacks ks =
+    let h = holds-from (oneChannel n m setpoints readbacks) ks nothingKept (opened-range m) (holds-opened m readbacks) in
+    (h .stored, h .retired)
+
+words-long : (o : OneChannel) (ks : List ChannelCall) → length (transitions o ks .readbacks) ≡ length (o .readbacks)
+words-long o [] = refl
+words-long o (k ∷ ks) = words-long (transition o k) ks ∙ stays o k .readback-words
+
+retires : (o : OneChannel) (m : ℕ) (g : Kept) → o .m ≡ m → length (o .readbacks) ≡ m * 2 → ChannelInRange (o .m) (o .channel) → HoldsIn o g
+    → (response o (call.retired m m) ≡ part (g .retired)) × (response o (call.retiredLength m m) ≡ partLength (length (g .retired)))
+unfolding answer retiredOf refusalOf
+retires o m g d l r h =
+    let fits : eqb m (o .m) ≡ true = eq-eqb m (o .m) (sym d) in
+    let e : retiredOf o ≡ g .retired =
+    front-retired (secondActive (o .channel .registers) readbackPlace) (o .m) (o .channel .readbacks .retired) (o .readbacks) (r .readbacks .retired)
+    ∙ h .inactive (l ∙ ap (λ (x : ℕ). x * 2) (sym d)) in (
+      accepted-response o (call.retired m m) (rw fits) ∙ ap part e,
+      accepted-response o (call.retiredLength m m) (rw fits) ∙ ap (λ (t : List ℕ). partLength (length t)) e,
+    )
+
+pub retires-kept : RetiresKept
+unfolding state.opened
+retires-kept n m setpoints readbacks long ks =
+    let o = oneChannel n m setpoints readbacks in
+    retires (transitions o ks) m (keptOver n m setpoints readbacks ks) (depths-kept o ks .1) (words-long o ks ∙ long)
+    (channel-from o ks (opened-range m)) (holds-from o ks nothingKept (opened-range m) (holds-opened m readbacks))

@@ -1,0 +1,67 @@
+-- Start, Resume and reads leave the registers and the stored readback counts. Assumes nothing.
+use Prim.Native.Nat.{ℕ}
+use mathlib.Core.Path.{_≡_, refl, _∙_}
+use mathlib.Core.Bool.{Bool, true, false}
+use lib.Dec.{eqb}
+use Rattle.status.specs.Bits.{bitAt}
+use Rattle.status.specs.Latching.{run}
+use Rattle.registers.specs.Map.{triggersOf, groupEndEvent}
+use Rattle.sequencer.specs.Playing.{isIdle}
+use Rattle.channel_core.specs.declared.Channel.{Channel}
+use Rattle.channel_core.specs.State.{conditionLatched}
+use Rattle.channel_core.specs.Behaviour.{started, startedIf, endedIf, resumedIf, resumedOn, eventOf, commanded}
+use Rattle.channel.specs.Calls.{readEffect, mainTaken}
+use Rattle.channel.specs.OneChannel.{mainRead}
+use Rattle.histories.proofs.Cases.{either}
+
+pub record Leaves (c d : Channel) : Type 0 where
+  pub registers : d .registers ≡ c .registers
+  pub readbacks : d .readbacks ≡ c .readbacks
+
+pub leaves-all : (c : Channel) → Leaves c c
+leaves-all c = record { registers = refl; readbacks = refl }
+
+leaves-both : {c d e : Channel} → Leaves c d → Leaves d e → Leaves c e
+leaves-both a b = record { registers = b .registers ∙ a .registers; readbacks = b .readbacks ∙ a .readbacks }
+
+leaves-started : (on : Bool) (c : Channel) (delay : ℕ) → Leaves c (startedIf on c delay)
+unfolding startedIf started
+leaves-started true c delay =
+    either (Leaves c) (c .sequencer .armed) _ c
+    (leaves-both
+    (either (Leaves c) (isIdle (c .sequencer .stage)) (conditionLatched c run) c (record { registers = refl; readbacks = refl }) (leaves-all c))
+    (record { registers = refl; readbacks = refl }))
+    (leaves-all c)
+leaves-started false c delay = leaves-all c
+
+leaves-resumed : (on : Bool) (c : Channel) (pause delay : ℕ) → Leaves c (resumedIf on c pause delay)
+unfolding resumedIf
+leaves-resumed on c pause delay = either (Leaves c) on _ c (record { registers = refl; readbacks = refl }) (leaves-all c)
+
+-- what one event or command does after its Group End, if any
+pub leaves-event : (c : Channel) (user code : ℕ) → Leaves (endedIf (triggersOf (c .registers) groupEndEvent code) c) (eventOf c user code)
+unfolding eventOf resumedOn
+leaves-event c user code =
+    leaves-both (leaves-started _ _ _)
+    (leaves-both (leaves-resumed _ _ _ _)
+    (leaves-both (leaves-resumed _ _ _ _) (leaves-both (leaves-resumed _ _ _ _) (leaves-resumed _ _ _ _))))
+
+pub leaves-command : (c : Channel) (value : ℕ) → Leaves (endedIf (bitAt value 2) c) (commanded c value)
+unfolding commanded
+leaves-command c value = leaves-both (leaves-started _ _ _) (leaves-resumed _ _ _ _)
+
+-- a register read and a Main read clear what they showed, and no more
+pub leaves-read : (c : Channel) (offset : ℕ) → Leaves c (readEffect c offset)
+unfolding readEffect
+leaves-read c offset =
+    either (Leaves c) (eqb offset 0x02) _ _ (record { registers = refl; readbacks = refl })
+    (either (Leaves c) (eqb offset 0x04) _ c (record { registers = refl; readbacks = refl }) (leaves-all c))
+
+leaves-taken : (c : Channel) (polling : Bool) → Leaves c (mainTaken c polling)
+unfolding mainTaken
+leaves-taken c polling =
+    either (Leaves c) polling _ _ (record { registers = refl; readbacks = refl }) (record { registers = refl; readbacks = refl })
+
+pub leaves-main : (c : Channel) (offset : ℕ) → Leaves c (mainRead c offset)
+leaves-main c offset =
+    either (Leaves c) (eqb offset 0x28) _ _ (leaves-taken c false) (either (Leaves c) (eqb offset 0x2a) _ c (leaves-taken c true) (leaves-all c))

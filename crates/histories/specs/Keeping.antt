@@ -1,0 +1,99 @@
+-- Document 01, 'A channel's life': "Retired readbacks: .. the answer is the stored part of the inactive one itself, by count, without the end word."
+-- Stated over what replies were answered: what is stored are the words of those answered kept, in the order they came.
+use Prim.Native.Nat.{ℕ, _*_}
+use mathlib.Core.Path.{_≡_}
+use mathlib.Core.Bool.{Bool, true, false, cond, not}
+use mathlib.Core.List.{List, [], _∷_, _++_}
+use lib.ListN.{length}
+use Rattle.frame.specs.Frames.{Reading, read, crcRight}
+use Rattle.frame.specs.Frames as frame
+use Rattle.readback.specs.Storing.{storedWord}
+use Rattle.channel_core.specs.Answers.{Answer, part, partLength}
+use Rattle.channel_core.specs.Answers as ans
+use Rattle.channel.specs.OneChannel.{ChannelCall, OneChannel, oneChannel, response, transitions}
+use Rattle.channel.specs.OneChannel as call
+use Rattle.channel.specs.History.{Entry, history, endsGroup, resets}
+
+-- a reply that was answered kept
+abbrev pub isKept : Answer → Bool
+isKept (ans.refused k) = false
+isKept ans.done = false
+isKept (ans.value v) = false
+isKept (ans.bit b) = false
+isKept (ans.frame f) = false
+isKept ans.none = false
+isKept ans.kept = true
+isKept ans.lost = false
+isKept ans.unsolicited = false
+isKept (ans.part s) = false
+isKept (ans.partLength k) = false
+
+-- "Kept word: .. D31–D26 describe the last send": the word of a reply that comes at this state; there is none where it is refused 7
+abbrev pub replyWord : OneChannel → Reading → List ℕ
+replyWord o (frame.refused k) = []
+replyWord o (frame.fields id word aux crc) = storedWord (o .channel .sequencer .last) (o .user) (not (crcRight id word aux crc)) id word ∷ []
+
+abbrev pub callWord : OneChannel → ChannelCall → List ℕ
+callWord o (call.writeRegister lent offset value) = []
+callWord o (call.readRegister offset) = []
+callWord o (call.writeSetpoint lent user buffer index word) = []
+callWord o call.arm = []
+callWord o call.disarm = []
+callWord o (call.reply lent f) = replyWord o (read f)
+callWord o (call.retired one two) = []
+callWord o (call.retiredLength one two) = []
+callWord o (call.tick lent) = []
+callWord o (call.event lent code) = []
+callWord o (call.changeUser user) = []
+callWord o (call.writeMain lent offset value) = []
+callWord o (call.readMain offset) = []
+
+-- what a call stores: the word of a reply that was answered kept; one lost or unsolicited stores nothing
+abbrev pub storedBy : Entry → List ℕ
+storedBy e = cond (isKept (e .answer)) (callWord (e .before) (e .call)) []
+
+-- the words of the replies kept since the last Group End, reset or opening; and of those kept before that Group End, from the one before it,
+-- from a reset or from the opening on. With no Group End since a reset or the opening there are none of the latter.
+pub record Kept : Type 0 where
+  pub current : List ℕ
+  pub retired : List ℕ
+
+-- "no readbacks"
+abbrev pub nothingKept : Kept
+nothingKept = record { current = []; retired = [] }
+
+-- "readback buffers switch, the new one empty"
+abbrev pub switched : Kept → Kept
+switched g = record { current = []; retired = g .current }
+
+abbrev pub keptWith : Kept → List ℕ → Kept
+keptWith g words = record { current = g .current ++ words; retired = g .retired }
+
+-- a Group End, though its event or command may then start the channel again; "Reset D0 returns that channel to its opening state"; a kept reply's
+-- word goes after those before it. Nothing else stores a word: the end word is none of them.
+abbrev pub keptAfter : Kept → Entry → Kept
+keptAfter g e = cond (resets e) nothingKept (cond (endsGroup e) (switched g) (keptWith g (storedBy e)))
+
+unfoldable pub keptSince : Kept → List Entry → Kept
+keptSince g [] = g
+keptSince g (e ∷ es) = keptSince (keptAfter g e) es
+
+-- of an opening and a list of calls
+abbrev pub keptOver : ℕ → ℕ → List ℕ → List ℕ → List ChannelCall → Kept
+keptOver n m setpoints readbacks ks = keptSince nothingKept (history (oneChannel n m setpoints readbacks) ks)
+
+-- from an opening, after any list of calls, "both stored readback counts" are the numbers of replies that were answered kept
+abbrev pub CountsKept : Type 0
+CountsKept =
+    (n m : ℕ) (setpoints readbacks : List ℕ) (ks : List ChannelCall)
+    → (transitions (oneChannel n m setpoints readbacks) ks .channel .readbacks .stored ≡ length (keptOver n m setpoints readbacks ks .current))
+    × (transitions (oneChannel n m setpoints readbacks) ks .channel .readbacks .retired ≡ length (keptOver n m setpoints readbacks ks .retired))
+
+-- from an opening of a fitting length, after any list of calls, retired readbacks, lent what fits, answers the words of the replies that were
+-- answered kept before the last Group End, and its twin how many they are
+abbrev pub RetiresKept : Type 0
+RetiresKept =
+    (n m : ℕ) (setpoints readbacks : List ℕ) → length readbacks ≡ m * 2 → (ks : List ChannelCall)
+    → (response (transitions (oneChannel n m setpoints readbacks) ks) (call.retired m m) ≡ part (keptOver n m setpoints readbacks ks .retired))
+    × (response (transitions (oneChannel n m setpoints readbacks) ks) (call.retiredLength m m)
+    ≡ partLength (length (keptOver n m setpoints readbacks ks .retired)))

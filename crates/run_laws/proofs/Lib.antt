@@ -1,0 +1,4 @@
+pub mod Runs
+pub mod RefusedRecords
+pub mod Observed
+pub mod OneChannelFrames

@@ -1,0 +1,127 @@
+-- No call but a tick is answered a frame: of all that a channel hears, the frames are the ticks' answers to it. Assumes nothing.
+use Prim.Native.Nat.{ℕ}
+use mathlib.Core.Path.{_≡_, refl}
+use mathlib.Core.Bool.{Bool, true, false, _||_}
+use mathlib.Core.List.{[], _∷_}
+use lib.ListN.{length}
+use lib.Dec.{eqb}
+use Rattle.register_map.specs.Addresses.{Named, named, main, channel, nothing}
+use Rattle.register_map.specs.AccessRule.{channelAccess, mainAccess}
+use Rattle.register_map.specs.Verdicts.{readRefusal, writeRefusal}
+use Rattle.frame.specs.Frames.{Reading, read}
+use Rattle.frame.specs.Frames as frame
+use Rattle.readback.specs.declared.Disposition.{Disposition}
+use Rattle.readback.specs.declared.Disposition.the-variants as disposition
+use Rattle.channel_core.specs.declared.Channel.{Channel}
+use Rattle.channel_core.specs.Answers.{Answer, isRefusal, isFrame}
+use Rattle.channel_core.specs.Answers as ans
+use Rattle.channel_core.specs.Behaviour.{receiptAnswer, dispositionNow, replyAnswerAs, replyAnswer}
+use Rattle.channel.specs.Calls.{unless}
+use Rattle.channel.specs.Calls as chn
+use Rattle.channel.specs.OneChannel.{userRefusal}
+use Rattle.board_state.specs.declared.Board.{Board}
+use Rattle.board_state.specs.State.{channelAt}
+use Rattle.board_state.specs.Main.{mainValue}
+use Rattle.board.specs.Answers.{BoardAnswer, one, each}
+use Rattle.board.specs.Calls.{noChannel, setpointsFit, readbacksFit, readAnswerAt, writeAnswerAt}
+use Rattle.board.specs.Calls as calls
+use Rattle.isolation.specs.Calls.{Call, writeRegister, readRegister, writeSetpoint, arm, disarm, reply, retired, retiredLength, tick, event, changeUser, interruptLevel, Lent, first, second, answer}
+use Rattle.isolation.specs.Feeding.{only, ofFour, said, shared, sharedRead, observeWrite, observeRead, observe}
+use Rattle.isolation.proofs.Cases.{cond-case}
+use Rattle.run_file.specs.Laws.{howMany}
+
+-- whether an answer is a tick's with a frame of channel c
+abbrev pub sends : ℕ → BoardAnswer → Bool
+sends c = elim [ one a ↦ false | each f g h k ↦ isFrame (ofFour c f g h k) ]
+
+-- no frame
+record Quiet (a : Answer) : Type 0 where
+  quiet : isFrame a ≡ false
+
+-- ---- Answers
+
+unless-quiet : (k : ℕ) (a : Answer) → Quiet a → Quiet (unless k a)
+unless-quiet k a q = cond-case Quiet (eqb k 0) (λ t. q) (λ t. record { quiet = refl })
+
+receipt-quiet : (d : Disposition) → Quiet (receiptAnswer d)
+receipt-quiet disposition.Unsolicited = record { quiet = refl }
+receipt-quiet disposition.Lost = record { quiet = refl }
+receipt-quiet disposition.Kept = record { quiet = refl }
+
+reading-quiet : (r : Reading) (c : Channel) (m : ℕ) → Quiet (replyAnswerAs r c m)
+reading-quiet (frame.refused k) c m = record { quiet = refl }
+reading-quiet (frame.fields id word aux crc) c m = receipt-quiet (dispositionNow c m)
+
+module _ (b : Board) where
+  write-at : (n : Named) (v : ℕ) → Quiet (writeAnswerAt n v)
+  unfolding chn.writtenAnswer
+  write-at (main o) v = unless-quiet (writeRefusal (mainAccess o)) ans.done (record { quiet = refl })
+  write-at (channel d o) v = unless-quiet (chn.registerRefusal o v) ans.done (record { quiet = refl })
+  write-at nothing v = record { quiet = refl }
+
+  read-at : (n : Named) → Quiet (readAnswerAt n b)
+  unfolding chn.readAnswer
+  read-at (main o) = unless-quiet (readRefusal (mainAccess o)) (ans.value (mainValue b o)) (record { quiet = refl })
+  read-at (channel d o) = unless-quiet (readRefusal (channelAccess o)) (ans.value (chn.readValue (channelAt b d) o)) (record { quiet = refl })
+  read-at nothing = record { quiet = refl }
+
+  setpoint-quiet : (k d u f i : ℕ) → Quiet (calls.setpointAnswer b k d u f i)
+  unfolding calls.setpointAnswer chn.setpointAnswer
+  setpoint-quiet k d u f i =
+      cond-case Quiet (setpointsFit b k)
+      (λ t. cond-case Quiet (noChannel d) (λ t. record { quiet = refl }) (λ t. unless-quiet (chn.setpointRefusal (channelAt b d) (b .n) u f i) ans.done (record { quiet = refl })))
+      (λ t. record { quiet = refl })
+
+  reply-quiet : (k d f : ℕ) → Quiet (calls.replyAnswer b k d f)
+  unfolding calls.replyAnswer replyAnswer
+  reply-quiet k d f =
+      cond-case Quiet (readbacksFit b k)
+      (λ t. cond-case Quiet (noChannel d) (λ t. record { quiet = refl }) (λ t. reading-quiet (read f) (channelAt b d) (b .m)))
+      (λ t. record { quiet = refl })
+
+arm-quiet : (d : ℕ) → Quiet (calls.armAnswer d)
+unfolding calls.armAnswer
+arm-quiet d = cond-case Quiet (noChannel d) (λ t. record { quiet = refl }) (λ t. record { quiet = refl })
+
+-- ---- What is observed of them
+
+only-quiet : (t : Bool) (a : Answer) → Quiet a → howMany isFrame (only t a) ≡ 0
+unfolding howMany
+only-quiet true a q = rw (q .quiet)
+only-quiet false a q = refl
+
+shared-quiet : (a : Answer) → Quiet a → howMany isFrame (shared a ∷ []) ≡ 0
+shared-quiet a q = only-quiet true (shared a) (cond-case Quiet (isRefusal a) (λ t. q) (λ t. record { quiet = refl }))
+
+observed-write : (c : ℕ) (n : Named) (a : Answer) → Quiet a → howMany isFrame (observeWrite c n a) ≡ 0
+unfolding howMany
+observed-write c (main o) a q = shared-quiet a q
+observed-write c (channel d o) a q = only-quiet (eqb d c) a q
+observed-write c nothing a q = refl
+
+observed-read : (c : ℕ) (n : Named) (a : Answer) → Quiet a → howMany isFrame (observeRead c n a) ≡ 0
+unfolding howMany
+observed-read c (main o) a q =
+    only-quiet true (sharedRead c o a)
+    (cond-case Quiet (isRefusal a) (λ t. q) (λ t. cond-case Quiet (eqb o 0x28 || eqb o 0x2a) (λ t. record { quiet = refl }) (λ t. record { quiet = refl })))
+observed-read c (channel d o) a q = only-quiet (eqb d c) a q
+observed-read c nothing a q = refl
+
+pub heard : (c : ℕ) (b : Board) (x : Call) (l : Lent) → howMany isFrame (observe c x (answer b x l)) ≡ howMany (sends c) (answer b x l ∷ [])
+unfolding howMany answer calls.writeAnswer calls.readAnswer calls.retiredAnswer calls.retiredLength calls.tickBoardAnswer calls.eventAnswer calls.userAnswer
+heard c b (writeRegister a v) l =
+    observed-write c (named a) _ (cond-case Quiet (readbacksFit b (length (first l))) (λ t. write-at b (named a) v) (λ t. record { quiet = refl }))
+heard c b (readRegister a) l = observed-read c (named a) _ (read-at b (named a))
+heard c b (writeSetpoint d u f i y) l = only-quiet (eqb d c) _ (setpoint-quiet b (length (first l)) d u f i)
+heard c b (arm d) l = only-quiet (eqb d c) _ (arm-quiet d)
+heard c b (disarm d) l = only-quiet (eqb d c) _ (arm-quiet d)
+heard c b (reply d y) l = only-quiet (eqb d c) _ (reply-quiet b (length (first l)) d y)
+heard c b (retired d) l = only-quiet (eqb d c) _ (unless-quiet (calls.retiredRefusal b d (length (first l)) (length (second l))) (ans.part (calls.retiredWords b d (first l) (second l))) (record { quiet = refl }))
+heard c b (retiredLength d) l = only-quiet (eqb d c) _ (unless-quiet (calls.retiredRefusal b d (length (first l)) (length (second l))) (ans.partLength (length (calls.retiredWords b d (first l) (second l)))) (record { quiet = refl }))
+heard c b tick l =
+    cond-case (λ (s : BoardAnswer). howMany isFrame (said c s ∷ []) ≡ howMany (sends c) (s ∷ []))
+    (setpointsFit b (length (first l))) (λ t. refl) (λ t. refl)
+heard c b (event y) l =
+    shared-quiet _ (cond-case Quiet (readbacksFit b (length (first l))) (λ t. record { quiet = refl }) (λ t. record { quiet = refl }))
+heard c b (changeUser u) l = shared-quiet _ (unless-quiet (userRefusal u) ans.done (record { quiet = refl }))
+heard c b interruptLevel l = refl

@@ -1,0 +1,2 @@
+pub mod RefusedRecords
+pub mod OneChannelFrames

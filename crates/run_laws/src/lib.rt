@@ -1,0 +1,1 @@
+// Theorems alone: what the counts of a run say of its records, and of each channel by itself. The statements stand in specs/, the proofs in proofs/.
