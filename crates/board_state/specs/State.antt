@@ -1,8 +1,8 @@
--- Document 01, 'The bench and its memory': the board's state, and how the lent memories are parted among the channels.
-use Prim.Native.Nat.{ℕ, _+_, _-_, _*_}
-use mathlib.Core.Bool.{Bool, true, false}
-use mathlib.Core.List.{List, [], _∷_, _++_}
-use lib.ListN.{getD, set, take, drop, replicate}
+-- Document 01, 'The bench and its memory': the board's state, and its opening.
+use Prim.Native.Nat.{ℕ, _-_}
+use mathlib.Core.Bool.{true, false}
+use mathlib.Core.List.{List, [], _∷_}
+use lib.ListN.{getD, set}
 use Rattle.channel_core.specs.declared.Channel.{Channel}
 use Rattle.channel_core.specs.State as channel
 use Rattle.board_state.specs.declared.Main.{Main}

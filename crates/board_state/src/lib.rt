@@ -1,8 +1,7 @@
 // The board's state: depths, current user, Main registers and four channels. It holds no rule of a channel's life.
 use channel_core::Channel;
+use status::weigh;
 ghost use mathlib.Core.Path.{_≡_};
-ghost use Prim.Native.Nat.{_*_, _≤_};
-ghost use Rattle.status.specs.Bits.{bitOf};
 ghost use Rattle.channel.specs.Calls.{mainBit};
 ghost use Rattle.board_state.specs.State.{opened, channelAt, withChannelAt, withUser, eventCame};
 ghost use Rattle.board_state.specs.Main.{mainWord, mainStatus, takenAt, statusRead, mainStored, mainWritten, mainValue, mainRead, levelOf, enabledBit};
@@ -24,22 +23,12 @@ pub struct Board {
     pub channels: [Channel; 4],
 }
 
-// A bit at its weight.
-fn weigh(bit: bool, weight: u16) -> u16
-    ensures { λ r. ⌜ (r ≡ bitOf bit * weight) × (r ≤ weight) ⌝ }
-{
-    if bit {
-        return weight;
-    }
-    0
-}
-
 // A Main status: D11 is 1, D10-D8 the user less 1, D7-D4 channels 4-1, D3 an event came.
 fn main_word(user: u8, one: bool, two: bool, three: bool, four: bool, event: bool) -> u16
     ensures { λ r. ⌜ r ≡ mainWord user one two three four event ⌝ }
 {
     let channels = weigh(four, 128) + weigh(three, 64) + weigh(two, 32) + weigh(one, 16);
-    2048 + registers::zero_based(user) as u16 % 8 * 256 + channels + weigh(event, 8)
+    (2048 + registers::zero_based(user) as u32 % 8 * 256 + channels + weigh(event, 8)) as u16
 }
 
 // A channel's bit in a Main status.
@@ -62,7 +51,7 @@ fn main_stored(x: Main, offset: u16, value: u16) -> Main
         return y;
     }
     if offset == 0x26 {
-        y.enable = value % 256 / 16 * 16 + value % 256 % 8;
+        y.enable = status::kept_enable(value % 256);
         return y;
     }
     y

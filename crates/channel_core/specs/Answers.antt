@@ -1,4 +1,4 @@
--- What calls answer, in document 01's own numbers and values, and which of them each case of an answer in the code stands for.
+-- Document 01, 'Calls' and 'A channel's life': what calls answer, in its own numbers and values, and which of them each case of an answer in the code stands for.
 use Prim.Native.Nat.{ℕ}
 use mathlib.Core.Bool.{Bool, true, false}
 use mathlib.Core.List.{List}

@@ -1,9 +1,9 @@
 -- Document 01, 'A channel's life': what a channel does, over its own part of the lent memory (16 × N setpoint words, 2 × M readback words).
 use Prim.Native.Nat.{ℕ, _+_, _-_, _*_, _%_}
-use mathlib.Core.Bool.{Bool, true, false, cond, not, _&&_}
+use mathlib.Core.Bool.{Bool, cond, not}
 use mathlib.Core.List.{List}
-use lib.ListN.{getD, set}
-use lib.Dec.{eqb, ltb}
+use lib.ListN.{getD}
+use lib.Dec.{eqb}
 use Rattle.frame.specs.Frames.{Reading, refused, fields, read, encoded, crcRight}
 use Rattle.status.specs.declared.Status.{Status}
 use Rattle.status.specs.Bits.{bitAt, bitOf}
@@ -24,7 +24,7 @@ use Rattle.readback.specs.Storing as rb
 use Rattle.channel_core.specs.declared.Channel.{Channel}
 use Rattle.channel_core.specs.Answers.{Answer}
 use Rattle.channel_core.specs.Answers as ans
-use Rattle.channel_core.specs.State.{withStatus, withSequencer, conditionLatched}
+use Rattle.channel_core.specs.State.{withStatus, withSequencer, withReadbacks, conditionLatched}
 
 -- ---- Start
 
@@ -159,18 +159,15 @@ receiptAnswer disposition.Unsolicited = ans.unsolicited
 receiptAnswer disposition.Lost = ans.lost
 receiptAnswer disposition.Kept = ans.kept
 
--- the channel after it: a lost reply "counts among the six" too, an unasked one changes nothing
+-- a reply that was due, kept or lost, "counts among the six", and its CRC is checked
+abbrev pub replyCounted : Channel → Bool → Channel
+replyCounted c right = withSequencer (withStatus c (crcStatus (c .status) right)) (answered (c .sequencer))
+
+-- the channel after a well-framed reply; an unasked one changes nothing
 abbrev pub receivedChannel : Disposition → Channel → ℕ → Bool → Channel
 receivedChannel disposition.Unsolicited c m right = c
-receivedChannel disposition.Lost c m right =
-    withSequencer (withStatus c (crcStatus (c .status) right)) (answered (c .sequencer))
-receivedChannel disposition.Kept c m right =
-    record {
-      status = crcStatus (c .status) right;
-      registers = c .registers;
-      sequencer = answered (c .sequencer);
-      readbacks = keptIn (c .readbacks) m;
-    }
+receivedChannel disposition.Lost c m right = replyCounted c right
+receivedChannel disposition.Kept c m right = withReadbacks (replyCounted c right) (keptIn (c .readbacks) m)
 
 -- the readback words after it: only a kept reply is stored
 abbrev pub receivedWords : Disposition → Channel → List ℕ → ℕ → ℕ → List ℕ

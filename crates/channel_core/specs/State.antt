@@ -1,4 +1,4 @@
--- One channel's state: what document 01 lists under "It holds ..", but for the depths, the current user and the words, which come with each call.
+-- Document 01, 'A channel's life': one channel's state, what is listed under "It holds ..", but for the depths, the current user and the words, which come with each call.
 --   "its registers"                          registers, and status .enable, status's two copies
 --   "both Main bits"                         status .interrupt .main, status .polling .main
 --   armed, idle, ticks, index, word, last send, replies, last word went, setpoint count    sequencer (crate `sequencer`)
@@ -32,6 +32,9 @@ withRegisters c r = record { status = c .status; registers = r; sequencer = c .s
 
 abbrev pub withSequencer : Channel → Sequencer → Channel
 withSequencer c s = record { status = c .status; registers = c .registers; sequencer = s; readbacks = c .readbacks }
+
+abbrev pub withReadbacks : Channel → Readbacks → Channel
+withReadbacks c b = record { status = c .status; registers = c .registers; sequencer = c .sequencer; readbacks = b }
 
 -- a condition happens
 abbrev pub conditionLatched : Channel → ℕ → Channel

@@ -1,7 +1,7 @@
 // A channel's life: Start, Group End, events and commands, user changes, ticks and replies, over the channel's own part of the lent memory.
 // It knows no board and no other channel.
-use frame::Decoded;
-use readback::Disposition;
+mod replies;
+
 use readback::Readbacks;
 use refusal::Refusal;
 use registers::Registers;
@@ -9,13 +9,11 @@ use sequencer::Sequencer;
 use sequencer::Transmission;
 use status::Status;
 ghost use mathlib.Core.Path.{_≡_};
-ghost use mathlib.Core.Bool.{not};
 ghost use lib.ListN.{getD};
 ghost use Rattle.status.specs.Bits.{bitOf};
-ghost use Rattle.readback.specs.Storing.{storedWord};
-ghost use Rattle.channel_core.specs.Answers.{receiptOf, lineOf};
+ghost use Rattle.channel_core.specs.Answers.{lineOf};
 ghost use Rattle.channel_core.specs.State.{opened, reset};
-ghost use Rattle.channel_core.specs.Behaviour.{started, earlyEnded, userChanged, groupEnded, endedIf, endedWords, startedIf, resumedIf, resumedOn, eventOf, eventWords, commanded, commandWords, setpointPlace, dueOf, tickOf, tickAnswer, dispositionNow, receivedChannel, receiptAnswer, receivedWords, crcStatus, replyAnswer, replyOf, replyWords};
+ghost use Rattle.channel_core.specs.Behaviour.{started, earlyEnded, userChanged, groupEnded, endedIf, endedWords, startedIf, resumedIf, resumedOn, eventOf, eventWords, commanded, commandWords, setpointPlace, dueOf, tickOf, tickAnswer};
 
 pub struct Channel {
     pub status: Status,
@@ -77,16 +75,6 @@ fn early_ended(s: Status, q: Sequencer) -> Status
     s
 }
 
-// The status after a reply that was kept or lost.
-fn crc_checked(s: Status, right: bool) -> Status
-    ensures { λ r. ⌜ r ≡ crcStatus s right ⌝ }
-{
-    if right {
-        return s;
-    }
-    s.latched(status::CRC_ERROR)
-}
-
 impl Channel {
     pub fn opened() -> Channel
         ensures { λ r. ⌜ r ≡ opened ⌝ }
@@ -117,20 +105,16 @@ impl Channel {
         ensures { λ r. ⌜ r ≡ started self delay ⌝ }
     {
         let q = self.sequencer;
+        let mut c = self;
         if q.armed {
             let stage = q.stage;
-            if sequencer::is_idle(stage) {
-                let s = self.status;
-                let mut c = self;
+            if sequencer::stages::is_idle(stage) {
+                let s = c.status;
                 c.status = s.latched(status::RUN);
-                c.sequencer = q.started(delay);
-                return c;
             }
-            let mut c = self;
             c.sequencer = q.started(delay);
-            return c;
         }
-        self
+        c
     }
 
     // The current user changed to another.
@@ -209,8 +193,8 @@ impl Channel {
         ensures { λ r. ⌜ (r ≡ eventOf self user code) × (now (words .exit) ≡ eventWords self (now (words .entry)) m code) ⌝ }
     {
         let r = self.registers;
-        let a = self.end_if(r.triggers(5, code), words, m);
-        let b = a.start_if(r.triggers(0, code), r.delay(0, user));
+        let a = self.end_if(r.triggers(registers::GROUP_END_EVENT, code), words, m);
+        let b = a.start_if(r.triggers(registers::START_EVENT, code), r.delay(0, user));
         b.resume_on(r, user, code)
     }
 
@@ -264,75 +248,6 @@ impl Channel {
                     channel: c,
                     line: line,
                 }
-            }
-        }
-    }
-
-    // A well-framed reply.
-    fn received(
-        self,
-        words: &mut [u32],
-        m: u32,
-        user: u8,
-        id: u8,
-        data: u16,
-        right: bool,
-    ) -> Received
-        ensures { λ r. ⌜ (r .channel ≡ receivedChannel (dispositionNow self m) self m right) × (receiptOf (r .receipt) ≡ receiptAnswer (dispositionNow self m)) × (now (words .exit) ≡ receivedWords (dispositionNow self m) self (now (words .entry)) m (storedWord (self .sequencer .last) user (not right) id «data»)) ⌝ }
-    {
-        let q = self.sequencer;
-        let b = self.readbacks;
-        let stage = q.stage;
-        let last = q.last;
-        let disposition = readback::dispose(sequencer::is_idle(stage), last, b.stored, m);
-        let mut c = self;
-        match disposition {
-            Disposition::Unsolicited => Received {
-                channel: c,
-                receipt: Receipt::Unsolicited,
-            },
-            Disposition::Lost => {
-                let s = c.status;
-                c.status = crc_checked(s, right);
-                c.sequencer = q.answered();
-                Received {
-                    channel: c,
-                    receipt: Receipt::Lost,
-                }
-            }
-            Disposition::Kept => {
-                let s = c.status;
-                let r = c.registers;
-                let word = readback::stored_word(last, user, !right, id, data);
-                c.status = crc_checked(s, right);
-                c.sequencer = q.answered();
-                c.readbacks = b.keep(words, r.readback_second_active(), m, word);
-                Received {
-                    channel: c,
-                    receipt: Receipt::Kept,
-                }
-            }
-        }
-    }
-
-    // A reply from the supply.
-    pub fn reply(self, words: &mut [u32], m: u32, user: u8, frame: u64) -> Received
-        ensures { λ r. ⌜ (r .channel ≡ replyOf self m frame) × (receiptOf (r .receipt) ≡ replyAnswer self m frame) × (now (words .exit) ≡ replyWords self (now (words .entry)) m user frame) ⌝ }
-    {
-        let reading = frame::decode(frame);
-        match reading {
-            Decoded::FramingError => Received {
-                channel: self,
-                receipt: Receipt::Refused(Refusal::FramingError),
-            },
-            Decoded::Fields {
-                id,
-                data,
-                auxiliary,
-                crc,
-            } => {
-                let right = frame::crc_matches(id, data, auxiliary, crc);
-                self.received(words, m, user, id, data, right)
             }
         }
     }

@@ -91,7 +91,7 @@ period-some clock = go (eqb clock 0) (eqb clock 1) (eqb clock 2)
 -- what a call does that is not refused
 effect-steps : (o : OneChannel) (k : ChannelCall)
     → Steps (o .n) (o .channel .sequencer) (answer o k) (asksGroupEnd o k) (asksReset k) (asksIdle o k) (effect o k .channel .sequencer)
-unfolding effect answer armedOf disarmedOf disarmed tickOf tickAnswer
+unfolding effect answer armedOf disarmedOf disarmed idled tickOf tickAnswer
 effect-steps o (call.writeRegister lent offset value) = register-steps (o .n) (o .channel) offset value
 effect-steps o (call.readRegister offset) = same-steps (o .n) (o .channel) _ _ (refl, refl) (read-sequencer (o .channel) offset)
 effect-steps o (call.writeSetpoint lent user buffer index word) = same-steps (o .n) (o .channel) _ _ (refl, refl) refl

@@ -54,7 +54,7 @@ observed-plain a w h = rw (h .0, h .1)
 -- kept, but for what a Group End before it did
 pub keeps-steps : (n : ℕ) (c : Channel) (a : Answer) (on : Bool) (t : Sequencer) → Plain a → Keeps (endedIf on c .sequencer) t
     → Steps n (c .sequencer) a on false false t
-unfolding endedIf groupEnded seq.groupEnded
+unfolding endedIf groupEnded seq.groupEnded seq.idled
 keeps-steps n c a true t h k =
     record {
       count-step = k .count-kept;

@@ -1,7 +1,7 @@
 -- Document 01, 'A channel's life': replies, the words stored for them, and the retired part.
 -- Of the state, "both stored readback counts": `stored` is that of the active buffer, `retired` that of the inactive one.
 use Prim.Native.Nat.{ℕ, _+_, _-_, _*_, _%_}
-use mathlib.Core.Bool.{Bool, true, false, cond, not, _&&_}
+use mathlib.Core.Bool.{Bool, cond, not, _&&_}
 use mathlib.Core.List.{List}
 use lib.ListN.{set, take}
 use lib.Dec.{ltb}

@@ -1,10 +1,12 @@
 // Readbacks of a channel: which replies are kept, the word stored for one, the end word of a group, and the retired part.
 use sequencer::LastSend;
+use status::weigh;
 ghost use mathlib.Core.Path.{_≡_};
-ghost use Prim.Native.Nat.{_+_, _*_, _≤_};
 ghost use lib.ListN.{set, take};
-ghost use Rattle.status.specs.Bits.{bitOf};
 ghost use Rattle.readback.specs.Storing.{opened, storedWord, placeOf, dispositionOf, keptIn, keptWords, endWords, groupEnded, retiredPart};
+
+// What stands after the readbacks of a group.
+const END_WORD: u32 = 0x200_0000;
 
 pub struct Readbacks {
     // How many the active buffer holds.
@@ -19,15 +21,6 @@ pub enum Disposition {
     Unsolicited,
     Lost,
     Kept,
-}
-
-fn weigh(bit: bool, weight: u32) -> u32
-    ensures { λ r. ⌜ (r ≡ bitOf bit * weight) × (r ≤ weight) ⌝ }
-{
-    if bit {
-        return weight;
-    }
-    0
 }
 
 // The word stored for a reply with these fields.
@@ -129,7 +122,7 @@ impl Readbacks {
     {
         let at = self.stored;
         if at < m {
-            store(words, place(second, m, at), 0x200_0000);
+            store(words, place(second, m, at), END_WORD);
         }
     }
 

@@ -1,4 +1,4 @@
--- The registers with one field changed.
+-- Document 01, 'Register map': the registers that a channel holds, with one of them changed.
 use Prim.Native.Nat.{ℕ}
 use mathlib.Core.Bool.{Bool}
 use mathlib.Core.List.{List}

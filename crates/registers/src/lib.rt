@@ -4,7 +4,12 @@ ghost use mathlib.Core.Path.{_≡_};
 ghost use Prim.Native.Nat.{_+_, _-_};
 ghost use mathlib.Core.Bool.{false};
 ghost use lib.ListN.{getD};
-ghost use Rattle.registers.specs.Map.{opened, periodOf, matches, triggersOf, delayOf, secondActive, stored, loaded, flips, groupEnded};
+ghost use Rattle.registers.specs.Map.{opened, periodOf, matches, triggersOf, delayOf, secondActive, delayWritten, delayShown, stored, loaded, flips, groupEnded};
+
+// Events by their registers' places from 20h; Resume k is event k.
+pub const START_EVENT: u8 = 0;
+
+pub const GROUP_END_EVENT: u8 = 5;
 
 pub struct Registers {
     // 0A
@@ -55,6 +60,27 @@ pub fn zero_based(user: u8) -> u8
     0
 }
 
+// A delay with the half written that stands at this offset: the high byte, then the low word.
+fn delay_written(offset: u16, old: u32, value: u16) -> u32
+    ensures { λ r. ⌜ r ≡ delayWritten offset old value ⌝ }
+{
+    if offset % 4 == 0 {
+        return value as u32 % 256 * 65536 + old % 65536;
+    }
+    old / 65536 % 256 * 65536 + value as u32
+}
+
+// The half of a delay that a read shows at this offset.
+fn delay_shown(offset: u16, delay: u32) -> u16
+    ensures { λ r. ⌜ r ≡ delayShown offset delay ⌝ }
+{
+    if offset % 4 == 0 {
+        return (delay / 65536 % 256) as u16;
+    }
+    (delay % 65536) as u16
+}
+
+// One of sixteen bits, and false past the last.
 fn flag_at(a: [bool; 16], i: u8) -> bool
     ensures { λ r. ⌜ r ≡ getD a i false ⌝ }
 {
@@ -95,7 +121,7 @@ impl Registers {
         }
     }
 
-    // Whether a code is that of an event register: 0 Start, 1-4 Resume, 5 Group End.
+    // Whether a code is that of an event's register.
     pub fn triggers(self, event: u8, code: u8) -> bool
         ensures { λ r. ⌜ r ≡ triggersOf self event code ⌝ }
     {
@@ -167,11 +193,7 @@ impl Registers {
         if offset < 0xe0 {
             let i = (offset as usize - 0x40) / 4;
             let old = r.delays[i];
-            if offset % 4 == 0 {
-                r.delays[i] = value as u32 % 256 * 65536 + old % 65536;
-            } else {
-                r.delays[i] = old / 65536 % 256 * 65536 + value as u32;
-            }
+            r.delays[i] = delay_written(offset, old, value);
             return r;
         }
         r
@@ -211,11 +233,7 @@ impl Registers {
         if offset < 0xe0 {
             let i = (offset as usize - 0x40) / 4;
             let d = self.delays;
-            let delay = d[i];
-            if offset % 4 == 0 {
-                return (delay / 65536 % 256) as u16;
-            }
-            return (delay % 65536) as u16;
+            return delay_shown(offset, d[i]);
         }
         0
     }

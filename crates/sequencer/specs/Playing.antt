@@ -15,7 +15,6 @@ use Rattle.sequencer.specs.declared.Stage.{Stage}
 use Rattle.sequencer.specs.declared.Stage.the-variants as stage
 use Rattle.sequencer.specs.declared.LastSend.{LastSend}
 use Rattle.sequencer.specs.declared.Sequencer.{Sequencer}
-use Rattle.sequencer.specs.declared.Transmission.{Transmission}
 use Rattle.sequencer.specs.declared.Transmission.the-variants as transmission
 use Rattle.sequencer.specs.declared.Ticked.{Ticked}
 
@@ -64,6 +63,22 @@ abbrev pub opened : Sequencer
 opened =
     record { armed = false; stage = stage.Idle; left = 0; resume = 0; index = 0; word = 0; last = nothingSent; count = 0 }
 
+-- the state with one field changed
+abbrev pub withArmed : Sequencer → Bool → Sequencer
+withArmed s armed = record { armed = armed; stage = s .stage; left = s .left; resume = s .resume; index = s .index; word = s .word; last = s .last; count = s .count }
+
+abbrev pub withLeft : Sequencer → ℕ → Sequencer
+withLeft s left = record { armed = s .armed; stage = s .stage; left = left; resume = s .resume; index = s .index; word = s .word; last = s .last; count = s .count }
+
+abbrev pub withResume : Sequencer → ℕ → Sequencer
+withResume s resume = record { armed = s .armed; stage = s .stage; left = s .left; resume = resume; index = s .index; word = s .word; last = s .last; count = s .count }
+
+abbrev pub withLast : Sequencer → LastSend → Sequencer
+withLast s last = record { armed = s .armed; stage = s .stage; left = s .left; resume = s .resume; index = s .index; word = s .word; last = last; count = s .count }
+
+abbrev pub withCount : Sequencer → ℕ → Sequencer
+withCount s count = record { armed = s .armed; stage = s .stage; left = s .left; resume = s .resume; index = s .index; word = s .word; last = s .last; count = count }
+
 -- "if the channel isn't idle and the last word wasn't sent since its latest Start": idling then is an early end, EE
 abbrev pub unfinished : Sequencer → Bool
 unfinished s = not (isIdle (s .stage)) && not (isEnded (s .stage))
@@ -84,31 +99,11 @@ idled s =
 
 -- "Arming an armed channel changes nothing."
 unfoldable pub armed : Sequencer → Sequencer
-armed s =
-    record {
-      armed = true;
-      stage = s .stage;
-      left = s .left;
-      resume = s .resume;
-      index = s .index;
-      word = s .word;
-      last = s .last;
-      count = s .count;
-    }
+armed s = withArmed s true
 
 -- "Disarm idles, without EE."
 unfoldable pub disarmed : Sequencer → Sequencer
-disarmed s =
-    record {
-      armed = false;
-      stage = stage.Idle;
-      left = 0;
-      resume = 0;
-      index = 0;
-      word = 0;
-      last = nothingSent;
-      count = s .count;
-    }
+disarmed s = withArmed (idled s) false
 
 -- Start: "It loads the current user's start delay (0 for a command) plus 10."
 -- From the first word; the last send stays until the next.
@@ -198,32 +193,6 @@ repeated s period =
 abbrev pub quiet : Sequencer → Ticked
 quiet s = record { sequencer = s; transmission = transmission.Nothing }
 
-abbrev pub withLeft : Sequencer → ℕ → Sequencer
-withLeft s left =
-    record {
-      armed = s .armed;
-      stage = s .stage;
-      left = left;
-      resume = s .resume;
-      index = s .index;
-      word = s .word;
-      last = s .last;
-      count = s .count;
-    }
-
-abbrev pub withResume : Sequencer → ℕ → Sequencer
-withResume s resume =
-    record {
-      armed = s .armed;
-      stage = s .stage;
-      left = s .left;
-      resume = resume;
-      index = s .index;
-      word = s .word;
-      last = s .last;
-      count = s .count;
-    }
-
 -- "The first setpoint leaves on the tick that brings the count to 0."
 unfoldable pub advancing : Sequencer → ℕ → ℕ → ℕ → Ticked
 advancing s due n period = cond (leb (s .left) 1) (sentNext s due n period) (quiet (withLeft s (s .left - 1)))
@@ -251,19 +220,6 @@ tickedAt stage.Ended s due n period = repeating s period
 unfoldable pub ticked : Sequencer → ℕ → ℕ → ℕ → Ticked
 ticked s due n period = tickedAt (s .stage) s due n period
 
-abbrev pub withLast : Sequencer → LastSend → Sequencer
-withLast s last =
-    record {
-      armed = s .armed;
-      stage = s .stage;
-      left = s .left;
-      resume = s .resume;
-      index = s .index;
-      word = s .word;
-      last = last;
-      count = s .count;
-    }
-
 abbrev pub withReplies : LastSend → ℕ → LastSend
 withReplies l replies = record { sent = l .sent; first = l .first; paused = l .paused; last = l .last; replies = replies }
 
@@ -273,14 +229,4 @@ answered s = withLast s (withReplies (s .last) (cond (ltb (s .last .replies) 6) 
 
 -- Group End: "idle; .. the setpoint count is .. cleared"
 unfoldable pub groupEnded : Sequencer → Sequencer
-groupEnded s =
-    record {
-      armed = s .armed;
-      stage = stage.Idle;
-      left = 0;
-      resume = 0;
-      index = 0;
-      word = 0;
-      last = nothingSent;
-      count = 0;
-    }
+groupEnded s = withCount (idled s) 0

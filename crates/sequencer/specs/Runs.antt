@@ -1,4 +1,4 @@
--- Ticks in a row, and what each of them transmits: what the laws of proofs/ speak of.
+-- Document 01, 'A channel's life', its sends, pauses and resumes over time: ticks in a row and what each of them transmits, of which the laws in proofs/ speak.
 -- `words i` is the word at index i of the current user's active buffer, which does not change meanwhile; `n` the depth.
 use Prim.Native.Nat.{ℕ, zero, suc, _+_, _*_, _<_}
 use mathlib.Core.Path.{_≡_}

@@ -1,6 +1,6 @@
 -- Document 01, 'A channel's life': what a setpoint word asks for.
 use Prim.Native.Nat.{ℕ, _+_}
-use mathlib.Core.Bool.{Bool, true, false, cond, _||_}
+use mathlib.Core.Bool.{Bool, true, false, cond}
 use lib.Dec.{leb}
 use Rattle.status.specs.Bits.{bitAt}
 use Rattle.status.specs.Latching.{pauseBit, endOfFunction}

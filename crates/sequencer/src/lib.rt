@@ -1,9 +1,11 @@
 // Playing a function: arming, the stage, the countdowns, which word is due, what is sent, and the setpoint count.
 // The sequencer knows no register and no memory: the word due and the period are handed in on each tick.
+pub mod stages;
+mod ticks;
+mod words;
+
 ghost use mathlib.Core.Path.{_≡_};
-ghost use Prim.Native.Nat.{_+_, _≤_};
-ghost use Rattle.sequencer.specs.Words.{atEnd, kindOf, stageAfter, conditionOf};
-ghost use Rattle.sequencer.specs.Playing.{opened, isIdle, isStarting, isPaused, isEnded, unfinished, nothingSent, counted, idled, armed, disarmed, started, resumed, sentNext, repeated, advancing, repeating, resuming, ticked, answered, groupEnded};
+ghost use Rattle.sequencer.specs.Playing.{opened, unfinished, nothingSent, idled, armed, disarmed, started, resumed, answered, groupEnded};
 
 // What the channel is doing.
 pub enum Stage {
@@ -63,100 +65,6 @@ pub struct Ticked {
     pub transmission: Transmission,
 }
 
-// Whether an index is the buffer's last, or past it.
-fn at_end(n: u32, index: u32) -> bool
-    ensures { λ r. ⌜ r ≡ atEnd n index ⌝ }
-{
-    n as u64 <= index as u64 + 1
-}
-
-// What kind of word it is; the word at the buffer's end is last.
-fn classify(word: u32, end: bool) -> Kind
-    ensures { λ r. ⌜ r ≡ kindOf word end ⌝ }
-{
-    if end {
-        return Kind::Last;
-    }
-    if word / 0x8000_0000 % 2 == 1 {
-        return Kind::Last;
-    }
-    if word / 0x1_0000 % 2 == 1 {
-        return Kind::Pause(1);
-    }
-    if word / 0x2_0000 % 2 == 1 {
-        return Kind::Pause(2);
-    }
-    if word / 0x4_0000 % 2 == 1 {
-        return Kind::Pause(3);
-    }
-    if word / 0x8_0000 % 2 == 1 {
-        return Kind::Pause(4);
-    }
-    if word / 0x10_0000 % 2 == 1 {
-        return Kind::Pause(0);
-    }
-    Kind::Plain
-}
-
-// The setpoint count with one more send.
-fn count_up(count: u32) -> u32
-    ensures { λ r. ⌜ r ≡ counted count ⌝ }
-{
-    if count < 0xff_ffff { count + 1 } else { count }
-}
-
-pub fn is_idle(stage: Stage) -> bool
-    ensures { λ r. ⌜ r ≡ isIdle stage ⌝ }
-{
-    match stage {
-        Stage::Idle => true,
-        Stage::Starting => false,
-        Stage::Running => false,
-        Stage::Paused(_) => false,
-        Stage::Resuming => false,
-        Stage::Ended => false,
-    }
-}
-
-fn is_starting(stage: Stage) -> bool
-    ensures { λ r. ⌜ r ≡ isStarting stage ⌝ }
-{
-    match stage {
-        Stage::Idle => false,
-        Stage::Starting => true,
-        Stage::Running => false,
-        Stage::Paused(_) => false,
-        Stage::Resuming => false,
-        Stage::Ended => false,
-    }
-}
-
-fn is_paused(stage: Stage) -> bool
-    ensures { λ r. ⌜ r ≡ isPaused stage ⌝ }
-{
-    match stage {
-        Stage::Idle => false,
-        Stage::Starting => false,
-        Stage::Running => false,
-        Stage::Paused(_) => true,
-        Stage::Resuming => true,
-        Stage::Ended => false,
-    }
-}
-
-fn is_ended(stage: Stage) -> bool
-    ensures { λ r. ⌜ r ≡ isEnded stage ⌝ }
-{
-    match stage {
-        Stage::Idle => false,
-        Stage::Starting => false,
-        Stage::Running => false,
-        Stage::Paused(_) => false,
-        Stage::Resuming => false,
-        Stage::Ended => true,
-    }
-}
-
 impl LastSend {
     pub fn nothing() -> LastSend
         ensures { λ r. ⌜ r ≡ nothingSent ⌝ }
@@ -192,10 +100,10 @@ impl Sequencer {
         ensures { λ r. ⌜ r ≡ unfinished self ⌝ }
     {
         let stage = self.stage;
-        if is_idle(stage) {
+        if stages::is_idle(stage) {
             return false;
         }
-        !is_ended(stage)
+        !stages::is_ended(stage)
     }
 
     // The function dropped; armed or not, and the setpoint count, stay.
@@ -274,183 +182,6 @@ impl Sequencer {
             }
             Stage::Resuming => self,
             Stage::Ended => self,
-        }
-    }
-
-    // The word due is sent.
-    fn send_next(self, due: u32, n: u32, period: u32) -> Ticked
-        ensures { λ r. ⌜ r ≡ sentNext self due n period ⌝ }
-    {
-        let stage = self.stage;
-        let index = self.index;
-        let first = is_starting(stage);
-        let count = count_up(self.count);
-        let k = classify(due, at_end(n, index));
-        match k {
-            Kind::Plain => Ticked {
-                sequencer: Sequencer {
-                    armed: self.armed,
-                    stage: Stage::Running,
-                    left: period as u64,
-                    resume: 0,
-                    index: index + 1,
-                    word: due,
-                    last: LastSend {
-                        sent: true,
-                        first: first,
-                        paused: false,
-                        last: false,
-                        replies: 0,
-                    },
-                    count: count,
-                },
-                transmission: Transmission::Word {
-                    word: due,
-                    condition: 0,
-                },
-            },
-            Kind::Pause(p) => Ticked {
-                sequencer: Sequencer {
-                    armed: self.armed,
-                    stage: Stage::Paused(p),
-                    left: period as u64,
-                    resume: 0,
-                    index: index + 1,
-                    word: due,
-                    last: LastSend {
-                        sent: true,
-                        first: first,
-                        paused: true,
-                        last: false,
-                        replies: 0,
-                    },
-                    count: count,
-                },
-                transmission: Transmission::Word {
-                    word: due,
-                    condition: 7 + p,
-                },
-            },
-            Kind::Last => Ticked {
-                sequencer: Sequencer {
-                    armed: self.armed,
-                    stage: Stage::Ended,
-                    left: period as u64,
-                    resume: 0,
-                    index: index,
-                    word: due,
-                    last: LastSend {
-                        sent: true,
-                        first: first,
-                        paused: false,
-                        last: true,
-                        replies: 0,
-                    },
-                    count: count,
-                },
-                transmission: Transmission::Word {
-                    word: due,
-                    condition: 14,
-                },
-            },
-        }
-    }
-
-    // The kept word is sent again.
-    fn repeat(self, period: u32) -> Ticked
-        ensures { λ r. ⌜ r ≡ repeated self period ⌝ }
-    {
-        let stage = self.stage;
-        Ticked {
-            sequencer: Sequencer {
-                armed: self.armed,
-                stage: stage,
-                left: period as u64,
-                resume: self.resume,
-                index: self.index,
-                word: self.word,
-                last: LastSend {
-                    sent: true,
-                    first: false,
-                    paused: is_paused(stage),
-                    last: is_ended(stage),
-                    replies: 0,
-                },
-                count: count_up(self.count),
-            },
-            transmission: Transmission::Word {
-                word: self.word,
-                condition: 0,
-            },
-        }
-    }
-
-    // A tick towards the word due.
-    fn advance(self, due: u32, n: u32, period: u32) -> Ticked
-        ensures { λ r. ⌜ r ≡ advancing self due n period ⌝ }
-    {
-        let left = self.left;
-        if left <= 1 {
-            return self.send_next(due, n, period);
-        }
-        let mut s = self;
-        s.left = left - 1;
-        Ticked {
-            sequencer: s,
-            transmission: Transmission::Nothing,
-        }
-    }
-
-    // A tick towards the next repeat.
-    fn hold(self, period: u32) -> Ticked
-        ensures { λ r. ⌜ r ≡ repeating self period ⌝ }
-    {
-        let left = self.left;
-        if left <= 1 {
-            return self.repeat(period);
-        }
-        let mut s = self;
-        s.left = left - 1;
-        Ticked {
-            sequencer: s,
-            transmission: Transmission::Nothing,
-        }
-    }
-
-    // A tick of a resume: repeats through the delay, then nine silent ticks, then the word due.
-    fn resume_tick(self, due: u32, n: u32, period: u32) -> Ticked
-        ensures { λ r. ⌜ r ≡ resuming self due n period ⌝ }
-    {
-        let resume = self.resume;
-        if resume <= 1 {
-            return self.send_next(due, n, period);
-        }
-        let mut s = self;
-        s.resume = resume - 1;
-        if resume <= 10 {
-            return Ticked {
-                sequencer: s,
-                transmission: Transmission::Nothing,
-            };
-        }
-        s.hold(period)
-    }
-
-    // One tick. `due` is the word at the index due, `n` the depth of its buffer.
-    pub fn tick(self, due: u32, n: u32, period: u32) -> Ticked
-        ensures { λ r. ⌜ r ≡ ticked self due n period ⌝ }
-    {
-        let stage = self.stage;
-        match stage {
-            Stage::Idle => Ticked {
-                sequencer: self,
-                transmission: Transmission::Nothing,
-            },
-            Stage::Starting => self.advance(due, n, period),
-            Stage::Running => self.advance(due, n, period),
-            Stage::Paused(_) => self.hold(period),
-            Stage::Resuming => self.resume_tick(due, n, period),
-            Stage::Ended => self.hold(period),
         }
     }
 

@@ -1,4 +1,4 @@
--- Bits of words. "Dn is bit n, D0 lowest."
+-- Document 01, opening paragraph: bits of words. "Dn is bit n, D0 lowest."
 use Prim.Native.Nat.{ℕ, _+_, _*_, _/_, _%_, _^_}
 use mathlib.Core.Bool.{Bool, true, false}
 use mathlib.Core.List.{List, [], _∷_}

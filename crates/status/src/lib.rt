@@ -1,8 +1,8 @@
 // A channel's status: what is enabled, and two copies of the latched conditions, each with the channel's bit in the Main status of that copy.
 ghost use mathlib.Core.Path.{_≡_};
-ghost use Prim.Native.Nat.{_+_, _*_, _<_};
+ghost use Prim.Native.Nat.{_+_, _*_, _<_, _≤_};
 ghost use Rattle.status.specs.Bits.{bitAt, bitOf, wordOfBits};
-ghost use Rattle.status.specs.Latching.{none, latchedIn, clearedIn, takenIn, opened, latched, enabled, reset};
+ghost use Rattle.status.specs.Latching.{none, latchedIn, clearedIn, takenIn, opened, latched, keptEnable, enabled, reset};
 
 // Bits of the channel status.
 pub const RUN: u8 = 15;
@@ -12,6 +12,9 @@ pub const END_OF_FUNCTION: u8 = 14;
 pub const GROUP_END: u8 = 13;
 
 pub const EARLY_END: u8 = 12;
+
+// Pause k, from 1 to 4, has bit VME_PAUSE + k.
+pub const VME_PAUSE: u8 = 7;
 
 pub const CRC_ERROR: u8 = 2;
 
@@ -37,15 +40,22 @@ pub fn is_set(word: u16, bit: u8) -> bool
     false
 }
 
+// A bit at its weight.
+pub fn weigh(bit: bool, weight: u32) -> u32
+    ensures { λ r. ⌜ (r ≡ bitOf bit * weight) × (r ≤ weight) ⌝ }
+{
+    if bit {
+        return weight;
+    }
+    0
+}
+
 // A word doubled, with a bit at its end.
 fn pushed(word: u32, bit: bool) -> u32
     requires { ⌜ word < 65536 ⌝ }
     ensures { λ r. ⌜ r ≡ bitOf bit + 2 * word ⌝ }
 {
-    if bit {
-        return 1 + 2 * word;
-    }
-    2 * word
+    weigh(bit, 1) + 2 * word
 }
 
 // The word of sixteen bits, the first of which is D0.
@@ -59,6 +69,13 @@ pub fn word_of_bits(bits: [bool; 16]) -> u16
         w = pushed(w, bits[k]);
     }
     w as u16
+}
+
+// What an enable register keeps of a word written: D3 is dropped.
+pub fn kept_enable(value: u16) -> u16
+    ensures { λ r. ⌜ r ≡ keptEnable value ⌝ }
+{
+    value / 16 * 16 + value % 8
 }
 
 impl Latches {
@@ -131,12 +148,12 @@ impl Status {
         }
     }
 
-    // Interrupt Enable written: D3 is dropped.
+    // Interrupt Enable written.
     pub fn enabled(self, value: u16) -> Status
         ensures { λ r. ⌜ r ≡ enabled self value ⌝ }
     {
         let mut s = self;
-        s.enable = value / 16 * 16 + value % 8;
+        s.enable = kept_enable(value);
         s
     }
 

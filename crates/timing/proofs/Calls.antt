@@ -56,7 +56,7 @@ resumes-nothing r c user code h =
 -- ---- Start
 
 pub ended-armed : (on : Bool) (c : Channel) → endedIf on c .sequencer .armed ≡ c .sequencer .armed
-unfolding endedIf groupEnded seq.groupEnded
+unfolding endedIf groupEnded seq.groupEnded seq.idled
 ended-armed true c = refl
 ended-armed false c = refl
 

@@ -97,7 +97,7 @@ idle : {A : Type 0} (s : Sequencer) → s .stage ≡ stage.Idle → isIdle (s .s
 idle s e x = clash (sym (ap isIdle e) ∙ x)
 
 live-ended : (on : Bool) (c : Channel) → LiveIn c → LiveIn (core.endedIf on c)
-unfolding core.endedIf core.groupEnded seq.groupEnded
+unfolding core.endedIf core.groupEnded seq.groupEnded seq.idled
 live-ended true c h = idle (seq.groupEnded (c .sequencer)) refl
 live-ended false c h = h
 
@@ -154,7 +154,7 @@ live-user o user true h = h
 live-user o user false h = idle (seq.idled (o .channel .sequencer)) refl
 
 live-effect : (o : OneChannel) (k : ChannelCall) → LiveOf o → LiveOf (effect o k)
-unfolding effect calls.armedOf calls.disarmedOf seq.armed seq.disarmed core.tickOf core.replyOf
+unfolding effect calls.armedOf calls.disarmedOf seq.armed seq.disarmed seq.idled core.tickOf core.replyOf
 live-effect o (call.writeRegister lent offset value) h = live-written (o .channel) offset value h
 live-effect o (call.readRegister offset) h = live-read (o .channel) offset h
 live-effect o (call.writeSetpoint lent user buffer index word) h = h

@@ -1,4 +1,4 @@
--- `board_state::main_stored` meets its contract: by the tests on the way and the contracts of what it calls. Assumes nothing.
+-- `board_state::main_stored` meets its contract: at each offset the bits that its register keeps, and elsewhere nothing. Assumes nothing.
 use Rattle.board_state.proofs.main_stored.Statement.{statement}
 use Rattle.board_state.specs.Main.{mainStored}
 use borrow.Author.Needs.{needs}
@@ -21,19 +21,17 @@ returns-2 c =
       ne-eqb _ _ (c .before .if1 .left),
     )
 
-mul-y : tie.Need-mul-y
-mul-y c = search needs
-
-add-y : tie.Need-add-y
-add-y c = search needs
+kept-enable-requires : tie.Need-kept-enable-requires
+kept-enable-requires c κs = search needs
 
 returns-3 : tie.Need-returns-3
 unfolding mainStored
 returns-3 c =
     simp (
-      eq-eqb _ _ (c .if3 .taken),
-      ne-eqb _ _ (c .before .if2 .left),
-      ne-eqb _ _ (c .before .before .if1 .left),
+      c .kept-enable .ensures,
+      eq-eqb _ _ (c .before .if3 .taken),
+      ne-eqb _ _ (c .before .before .if2 .left),
+      ne-eqb _ _ (c .before .before .before .if1 .left),
     )
 
 returns-4 : tie.Need-returns-4
@@ -46,4 +44,4 @@ returns-4 c =
     )
 
 pub main-stored-spec : {M : Type 1} → statement M
-main-stored-spec = tie.close (tie.spec cast-y returns returns-2 mul-y add-y returns-3 returns-4)
+main-stored-spec = tie.close (tie.spec cast-y returns returns-2 kept-enable-requires returns-3 returns-4)

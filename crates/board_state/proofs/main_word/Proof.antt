@@ -1,4 +1,4 @@
--- `board_state::main_word` meets its contract: by the tests on the way and the contracts of what it calls. Assumes nothing.
+-- `board_state::main_word` meets its contract: the user, each channel's bit and the event's, each at its weight. Assumes nothing.
 use Rattle.board_state.proofs.main_word.Statement.{statement}
 use Rattle.board_state.specs.Main.{mainWord}
 use borrow.Author.Needs.{needs}
@@ -46,9 +46,22 @@ weigh-requires-5 c κs = search needs
 add-result-3 : tie.Need-add-result-3
 add-result-3 c = search needs
 
+cast-result-2 : tie.Need-cast-result-2
+cast-result-2 c = search needs
+
 returns : tie.Need-returns
 unfolding mainWord
-returns c = simp (c .weigh5 .ensures .0, c .before .zero-based .ensures, c .before .before .weigh4 .ensures .0, c .before .before .before .weigh3 .ensures .0, c .before .before .before .before .weigh2 .ensures .0, c .before .before .before .before .before .weigh .ensures .0)
+returns c =
+    let k = c .before .before in
+    let h = k .before .before in
+    simp (
+      c .weigh5 .ensures .0,
+      c .before .zero-based .ensures,
+      k .weigh4 .ensures .0,
+      k .before .weigh3 .ensures .0,
+      h .weigh2 .ensures .0,
+      h .before .weigh .ensures .0,
+    )
 
 pub main-word-spec : {M : Type 1} → statement M
 main-word-spec =
@@ -68,4 +81,5 @@ main-word-spec =
     add-result-2
     weigh-requires-5
     add-result-3
+    cast-result-2
     returns)

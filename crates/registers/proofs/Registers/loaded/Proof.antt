@@ -106,31 +106,23 @@ returns-8 c =
 sub-i-2 : tie.Need-sub-i-2
 sub-i-2 c = omega arith
 
-mul-delay : tie.Need-mul-delay
-mul-delay c = omega arith
+mul-delay-shown : tie.Need-mul-delay-shown
+mul-delay-shown c = omega arith
 
-array-read-delay : tie.Need-array-read-delay
-array-read-delay c = omega arith
+array-read-delay-shown : tie.Need-array-read-delay-shown
+array-read-delay-shown c = omega arith
 
-cast-result-4 : tie.Need-cast-result-4
-cast-result-4 c = omega arith
+delay-shown-requires : tie.Need-delay-shown-requires
+delay-shown-requires c κs = search needs
 
 returns-9 : tie.Need-returns-9
 returns-9 c =
     let a = c .before .before .before .before .before .before .before .before .before .before .before .args in
-    rw (delay-loaded (a .self) (a .offset) (omega arith) (omega arith)) (simp (eq-eqb _ _ (c .if10 .taken)))
-
-cast-result-5 : tie.Need-cast-result-5
-cast-result-5 c = omega arith
+    rw (delay-loaded (a .self) (a .offset) (omega arith) (omega arith)) (simp (c .delay-shown .ensures))
 
 returns-10 : tie.Need-returns-10
-returns-10 c =
-    let a = c .before .before .before .before .before .before .before .before .before .before .before .args in
-    rw (delay-loaded (a .self) (a .offset) (omega arith) (omega arith)) (simp (ne-eqb _ _ (c .if10 .left)))
-
-returns-11 : tie.Need-returns-11
 unfolding loaded
-returns-11 c =
+returns-10 c =
     simp (
       le-ltb _ _ (c .if9 .left),
       le-ltb _ _ (c .before .if8 .left),
@@ -163,10 +155,8 @@ loaded-spec =
     returns-7
     returns-8
     sub-i-2
-    mul-delay
-    array-read-delay
-    cast-result-4
+    mul-delay-shown
+    array-read-delay-shown
+    delay-shown-requires
     returns-9
-    cast-result-5
-    returns-10
-    returns-11)
+    returns-10)

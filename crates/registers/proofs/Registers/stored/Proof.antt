@@ -4,6 +4,7 @@ use native.Mathlib.Nat.{div-one}
 use mathlib.Core.Path.{sym}
 use Rattle.registers.specs.Map.{stored}
 use borrow.Author.Tests.{lt-ltb, le-ltb, eq-eqb, ne-eqb}
+use borrow.Author.Needs.{needs}
 use Rattle.registers.proofs.Places.{event-stored, delay-stored}
 use Rattle.registers.proofs.Registers.stored.Statement.{statement}
 use Rattle.registers.proofs.Registers.stored.Tie as tie
@@ -79,43 +80,23 @@ mul-old c = omega arith
 element-copy-out-old : tie.Need-element-copy-out-old
 element-copy-out-old c = omega arith
 
+delay-written-requires : tie.Need-delay-written-requires
+delay-written-requires c κs = search needs
+
 mul-r-2 : tie.Need-mul-r-2
 mul-r-2 c = omega arith
-
-add-r : tie.Need-add-r
-add-r c = omega arith
-
-mul-r-3 : tie.Need-mul-r-3
-mul-r-3 c = omega arith
 
 element-write-r-3 : tie.Need-element-write-r-3
 element-write-r-3 c = omega arith
 
-mul-r-4 : tie.Need-mul-r-4
-mul-r-4 c = omega arith
-
-add-r-2 : tie.Need-add-r-2
-add-r-2 c = omega arith
-
-mul-r-5 : tie.Need-mul-r-5
-mul-r-5 c = omega arith
-
-element-write-r-4 : tie.Need-element-write-r-4
-element-write-r-4 c = omega arith
-
 returns-7 : tie.Need-returns-7
 returns-7 c =
     let a = c .before .before .before .before .before .before .before .before .before .args in
-    rw (delay-stored (a .self) (a .offset) (omega arith) (omega arith) (a .value)) (simp (eq-eqb _ _ (c .if8 .taken)))
+    rw (delay-stored (a .self) (a .offset) (omega arith) (omega arith) (a .value)) (simp (c .delay-written .ensures))
 
 returns-8 : tie.Need-returns-8
-returns-8 c =
-    let a = c .before .before .before .before .before .before .before .before .before .args in
-    rw (delay-stored (a .self) (a .offset) (omega arith) (omega arith) (a .value)) (simp (ne-eqb _ _ (c .if8 .left)))
-
-returns-9 : tie.Need-returns-9
 unfolding stored
-returns-9 c =
+returns-8 c =
     simp (
       le-ltb _ _ (c .if7 .left),
       le-ltb _ _ (c .before .if6 .left),
@@ -145,14 +126,8 @@ stored-spec =
     sub-i-3
     mul-old
     element-copy-out-old
+    delay-written-requires
     mul-r-2
-    add-r
-    mul-r-3
     element-write-r-3
-    mul-r-4
-    add-r-2
-    mul-r-5
-    element-write-r-4
     returns-7
-    returns-8
-    returns-9)
+    returns-8)

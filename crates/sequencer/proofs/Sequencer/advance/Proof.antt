@@ -15,9 +15,12 @@ returns c = simp (c .send-next .ensures, le-leb _ _ (c .before .if1 .taken))
 sub-s : tie.Need-sub-s
 sub-s c = search needs
 
+quiet-requires : tie.Need-quiet-requires
+quiet-requires c κs = search needs
+
 returns-2 : tie.Need-returns-2
 unfolding advancing
-returns-2 c = simp (lt-leb _ _ (c .if1 .left))
+returns-2 c = simp (c .quiet .ensures, lt-leb _ _ (c .before .if1 .left))
 
 pub advance-spec : {M : Type 1} → statement M
-advance-spec = tie.close (tie.spec send-next-requires returns sub-s returns-2)
+advance-spec = tie.close (tie.spec send-next-requires returns sub-s quiet-requires returns-2)

@@ -15,9 +15,12 @@ returns c = simp (c .send-next .ensures, le-leb _ _ (c .before .if1 .taken))
 sub-s : tie.Need-sub-s
 sub-s c = search needs
 
+quiet-requires : tie.Need-quiet-requires
+quiet-requires c κs = search needs
+
 returns-2 : tie.Need-returns-2
 unfolding resuming
-returns-2 c = simp (le-leb _ _ (c .if2 .taken), lt-leb _ _ (c .before .if1 .left))
+returns-2 c = simp (c .quiet .ensures, le-leb _ _ (c .before .if2 .taken), lt-leb _ _ (c .before .before .if1 .left))
 
 hold-requires : tie.Need-hold-requires
 hold-requires c κs = search needs
@@ -28,4 +31,4 @@ returns-3 c = simp (c .hold .ensures, lt-leb _ _ (c .before .if2 .left), lt-leb 
 
 pub resume-tick-spec : {M : Type 1} → statement M
 resume-tick-spec =
-    tie.close (tie.spec send-next-requires returns sub-s returns-2 hold-requires returns-3)
+    tie.close (tie.spec send-next-requires returns sub-s quiet-requires returns-2 hold-requires returns-3)

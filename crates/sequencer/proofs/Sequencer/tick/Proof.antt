@@ -7,6 +7,9 @@ use Rattle.sequencer.proofs.Sequencer.tick.Tie as tie
 enum-told : tie.Need-enum-told
 enum-told c = search needs
 
+quiet-requires : tie.Need-quiet-requires
+quiet-requires c κs = search needs
+
 enum-told-2 : tie.Need-enum-told-2
 enum-told-2 c = search needs
 
@@ -39,7 +42,7 @@ hold-requires-2 c κs = search needs
 
 returns : tie.Need-returns
 unfolding ticked
-returns c = simp (c .enum-told .given .1)
+returns c = simp (c .quiet .ensures, c .before .enum-told .given .1)
 
 returns-2 : tie.Need-returns-2
 unfolding ticked
@@ -66,6 +69,7 @@ tick-spec =
     tie.close
     (tie.spec
     enum-told
+    quiet-requires
     enum-told-2
     advance-requires
     enum-told-3

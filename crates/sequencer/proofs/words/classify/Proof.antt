@@ -1,8 +1,8 @@
--- `sequencer::classify` meets its contract: the first bit that is set decides, in the order of the definition. Assumes nothing.
+-- `sequencer::words::classify` meets its contract: the first bit that is set decides, in the order of the definition. Assumes nothing.
 use borrow.Author.Tests.{eq-eqb, ne-eqb}
 use borrow.Author.Needs.{needs}
-use Rattle.sequencer.proofs.classify.Statement.{statement}
-use Rattle.sequencer.proofs.classify.Tie as tie
+use Rattle.sequencer.proofs.words.classify.Statement.{statement}
+use Rattle.sequencer.proofs.words.classify.Tie as tie
 
 returns : tie.Need-returns
 returns c = search needs

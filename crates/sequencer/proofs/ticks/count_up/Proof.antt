@@ -1,8 +1,8 @@
--- `sequencer::count_up` meets its contract: one more, up to FFFFFFh. Assumes nothing.
+-- `sequencer::ticks::count_up` meets its contract: one more, up to FFFFFFh. Assumes nothing.
 use borrow.Author.Tests.{lt-ltb, le-ltb}
 use borrow.Author.Needs.{needs}
-use Rattle.sequencer.proofs.count_up.Statement.{statement}
-use Rattle.sequencer.proofs.count_up.Tie as tie
+use Rattle.sequencer.proofs.ticks.count_up.Statement.{statement}
+use Rattle.sequencer.proofs.ticks.count_up.Tie as tie
 
 add-result : tie.Need-add-result
 add-result c = search needs

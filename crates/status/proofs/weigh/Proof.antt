@@ -1,7 +1,7 @@
--- `board_state::weigh` meets its contract: by the tests on the way and the contracts of what it calls. Assumes nothing.
-use Rattle.board_state.proofs.weigh.Statement.{statement}
+-- `status::weigh` meets its contract: the weight where the bit is set, and else 0. Assumes nothing.
 use native.Mathlib.Omega.{arith}
-use Rattle.board_state.proofs.weigh.Tie as tie
+use Rattle.status.proofs.weigh.Statement.{statement}
+use Rattle.status.proofs.weigh.Tie as tie
 
 returns : tie.Need-returns
 returns c = (simp (c .if1 .taken) (omega arith), omega arith)

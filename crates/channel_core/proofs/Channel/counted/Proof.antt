@@ -1,0 +1,16 @@
+-- `channel_core::Channel::counted` meets its contract: the status by the CRC, and one more reply. Assumes nothing.
+use borrow.Author.Needs.{needs}
+use Rattle.channel_core.proofs.Channel.counted.Statement.{statement}
+use Rattle.channel_core.proofs.Channel.counted.Tie as tie
+
+crc-checked-requires : tie.Need-crc-checked-requires
+crc-checked-requires c κs = search needs
+
+answered-requires : tie.Need-answered-requires
+answered-requires c κs = search needs
+
+returns : tie.Need-returns
+returns c = simp (c .answered .ensures, c .before .crc-checked .ensures)
+
+pub counted-spec : {M : Type 1} → statement M
+counted-spec = tie.close (tie.spec crc-checked-requires answered-requires returns)
