@@ -1,13 +1,13 @@
 -- The part that the retired call gives is that of its answer: the words, or none where it is refused. Assumes nothing.
 use Prim.Native.Nat.{ℕ}
 use mathlib.Core.Path.{_≡_, refl}
-use mathlib.Core.Bool.{Bool, true, false, cond}
-use mathlib.Core.List.{List, []}
+use mathlib.Core.Bool.{Bool, true, false}
+use mathlib.Core.List.{List}
 use lib.ListN.{length}
 use lib.Dec.{eqb}
 use Rattle.channel.specs.Calls as one
 use Rattle.board_state.specs.declared.Board.{Board}
-use Rattle.board.specs.Calls.{noChannel, retiredRefusal, retiredWords, retiredAnswer, partOf}
+use Rattle.board.specs.Calls.{noChannel, retiredWords, retiredAnswer, partOf}
 
 pub retired-part : (b : Board) (number : ℕ) (s t : List ℕ) → partOf (retiredAnswer b number s t) ≡ retiredWords b number s t
 unfolding retiredAnswer retiredWords one.retiredWords

@@ -1,7 +1,7 @@
--- What calls on the board answer, in document 01's numbers and values.
-use Prim.Native.Nat.{ℕ}
-use Rattle.refusal.specs.Refusals.{numberOf}
+-- Document 01, 'Calls': what calls on the board answer, in its numbers and values.
+use Prim.Native.Nat.{ℕ, zero, suc}
 use mathlib.Core.Bool.{Bool, false}
+use Rattle.refusal.specs.Refusals.{numberOf}
 use Rattle.channel_core.specs.Answers.{Answer, isRefusal, lineOf}
 use Rattle.channel_core.specs.Answers as ans
 use Rattle.board.specs.declared.Frames.{Frames}
@@ -12,6 +12,14 @@ pub data BoardAnswer : Type 0 where
   one : Answer → BoardAnswer
   -- a tick: the frame or none of channels 1 to 4
   each : (first second third fourth : Answer) → BoardAnswer
+
+-- of four, that of channel 1 to 4
+abbrev pub ofFour : {A : Type 0} → ℕ → A → A → A → A → A
+ofFour zero f g h k = f
+ofFour (suc zero) f g h k = f
+ofFour (suc (suc zero)) f g h k = g
+ofFour (suc (suc (suc zero))) f g h k = h
+ofFour (suc (suc (suc (suc c)))) f g h k = k
 
 abbrev pub framesOf : Frames → BoardAnswer
 framesOf (frames.Each a b c d) = each (lineOf a) (lineOf b) (lineOf c) (lineOf d)

@@ -1,7 +1,7 @@
 -- Document 01, 'Calls': every call on the board, by the one-channel definitions. Of each: its refusal (0: none) where it is the board's, its
 -- answer, the board after it, and what it leaves of the memory that it is lent. Refused, it leaves all as it was.
-use Prim.Native.Nat.{ℕ, zero, suc, _+_, _-_, _*_}
-use mathlib.Core.Bool.{Bool, true, false, cond, _||_}
+use Prim.Native.Nat.{ℕ, zero, suc, _*_}
+use mathlib.Core.Bool.{Bool, true, false, cond}
 use mathlib.Core.List.{List, []}
 use lib.ListN.{length}
 use lib.Dec.{eqb}
@@ -20,9 +20,9 @@ use Rattle.channel.specs.OneChannel.{userRefusal}
 use Rattle.board_state.specs.declared.Board.{Board}
 use Rattle.board_state.specs.State.{opened, channelAt, withChannelAt, withUser, eventCame}
 use Rattle.board_state.specs.Main.{mainWritten, mainValue, mainRead}
-use Rattle.board.specs.Parts.{own, withOwn}
+use Rattle.board_state.specs.Parts.{own, withOwn}
 use Rattle.board.specs.Answers.{BoardAnswer}
-use Rattle.board.specs.Answers as said
+use Rattle.board.specs.Answers as answers
 
 -- sizes of a channel's part
 abbrev pub setpointSize : Board → ℕ
@@ -38,6 +38,7 @@ setpointsFit b lent = eqb lent (b .n * 64)
 abbrev pub readbacksFit : Board → ℕ → Bool
 readbacksFit b lent = eqb lent (b .m * 8)
 
+-- refused 1, 2 and 3
 abbrev pub sizeMismatch : Answer
 sizeMismatch = ans.refused (numberOf refusal.SizeMismatch)
 
@@ -133,11 +134,15 @@ setpointWords b s number user buffer index word =
 
 -- ---- Arm, disarm
 
-unfoldable pub armBoard : Board → ℕ → Board
-armBoard b number = cond (noChannel number) b (withChannelAt b number (one.armedOf (channelAt b number)))
+-- armed (`on`) or disarmed
+unfoldable pub setArmed : Board → ℕ → Bool → Board
+setArmed b number on = cond (noChannel number) b (withChannelAt b number (one.setArmed (channelAt b number) on))
 
-unfoldable pub disarmBoard : Board → ℕ → Board
-disarmBoard b number = cond (noChannel number) b (withChannelAt b number (one.disarmedOf (channelAt b number)))
+abbrev pub armBoard : Board → ℕ → Board
+armBoard b number = setArmed b number true
+
+abbrev pub disarmBoard : Board → ℕ → Board
+disarmBoard b number = setArmed b number false
 
 unfoldable pub armAnswer : ℕ → Answer
 armAnswer number = cond (noChannel number) outOfRange ans.done
@@ -209,7 +214,7 @@ tickBoard b s =
 
 unfoldable pub tickBoardAnswer : Board → List ℕ → BoardAnswer
 tickBoardAnswer b s =
-    cond (setpointsFit b (length s)) (said.each (tickFrame b s 1) (tickFrame b s 2) (tickFrame b s 3) (tickFrame b s 4)) (said.one sizeMismatch)
+    cond (setpointsFit b (length s)) (answers.each (tickFrame b s 1) (tickFrame b s 2) (tickFrame b s 3) (tickFrame b s 4)) (answers.one sizeMismatch)
 
 -- ---- Event: channel by channel, each over its part of the readbacks
 

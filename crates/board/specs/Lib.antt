@@ -1,4 +1,3 @@
-pub mod Parts
 pub mod Answers
 pub mod Calls
 pub mod Worlds

@@ -6,13 +6,13 @@ use channel_core::Line;
 use channel_core::Receipt;
 use refusal::Refusal;
 ghost use mathlib.Core.Path.{_≡_};
-ghost use Prim.Native.Nat.{_+_, _-_, _*_, _<_, _≤_};
+ghost use Prim.Native.Nat.{_*_, _≤_};
 ghost use lib.ListN.{length};
 ghost use Rattle.channel_core.specs.Answers.{receiptOf, lineOf};
 ghost use Rattle.channel.specs.Answers.{outcomeOf, lengthOf};
 ghost use Rattle.board_state.specs.Main.{levelOf};
 ghost use Rattle.board.specs.Answers.{framesOf};
-ghost use Rattle.board.specs.Calls.{sizeMismatch, closed, openBoard, openAnswer, setpointAnswer, setpointWords, armBoard, disarmBoard, armAnswer, replyBoard, replyAnswer, replyWords, partOf, retiredAnswer, retiredLength, tickChannel, tickFrame, tickBoard, tickBoardAnswer, eventBoardAt, eventWordsAt, eventBoard, eventAnswer, eventWords, changedAt, userBoard, userAnswer};
+ghost use Rattle.board.specs.Calls.{sizeMismatch, closed, openBoard, openAnswer, setpointAnswer, setpointWords, setArmed, armBoard, disarmBoard, armAnswer, replyBoard, replyAnswer, replyWords, partOf, retiredAnswer, retiredLength, tickChannel, tickFrame, tickBoard, tickBoardAnswer, eventBoardAt, eventWordsAt, eventBoard, eventAnswer, eventWords, changedAt, userBoard, userAnswer};
 
 // The answer of a tick: each channel's frame or none.
 pub enum Frames {
@@ -34,14 +34,6 @@ pub struct Received {
 pub struct Ticked {
     pub board: Board,
     pub frames: Frames,
-}
-
-// Where a channel's part of a memory starts.
-fn base(number: u8, size: usize) -> usize
-    requires { ⌜ (1 ≤ number) × (number ≤ 4) × (size < 2147483648 * 64) ⌝ }
-    ensures { λ r. ⌜ (r ≡ (number - 1) * size) × (r + size ≤ 4 * size) ⌝ }
-{
-    (number - 1) as usize * size
 }
 
 // Opens a board on the memory lent, or refuses and answers a closed one beside it.
@@ -94,43 +86,41 @@ pub fn write_setpoint(
     if channel::is_outside(1, 4, number) {
         return Outcome::Refused(Refusal::OutOfRange);
     }
-    let c = b.channel(number as u8);
-    let size = n as usize * 16;
-    let a = base(number as u8, size);
-    let e = a + size;
+    let k = number as u8;
+    let c = b.channel(k);
+    let a = board_state::part_start(k, n, 16);
+    let e = a + n as usize * 16;
     channel::write_setpoint(c, &mut setpoints[a..e], n, user, buffer, index, word)
+}
+
+// The named channel armed (`on`) or disarmed.
+fn set_armed(b: Board, number: u32, on: bool) -> Written
+    ensures { λ r. ⌜ (r .board ≡ setArmed b number on) × (outcomeOf (r .outcome) ≡ armAnswer number) ⌝ }
+{
+    if channel::is_outside(1, 4, number) {
+        return Written {
+            board: b,
+            outcome: Outcome::Refused(Refusal::OutOfRange),
+        };
+    }
+    let k = number as u8;
+    let c = channel::set_armed(b.channel(k), on);
+    Written {
+        board: b.with_channel(k, c),
+        outcome: Outcome::Done,
+    }
 }
 
 pub fn arm(b: Board, number: u32) -> Written
     ensures { λ r. ⌜ (r .board ≡ armBoard b number) × (outcomeOf (r .outcome) ≡ armAnswer number) ⌝ }
 {
-    if channel::is_outside(1, 4, number) {
-        return Written {
-            board: b,
-            outcome: Outcome::Refused(Refusal::OutOfRange),
-        };
-    }
-    let c = channel::arm(b.channel(number as u8));
-    Written {
-        board: b.with_channel(number as u8, c),
-        outcome: Outcome::Done,
-    }
+    set_armed(b, number, true)
 }
 
 pub fn disarm(b: Board, number: u32) -> Written
     ensures { λ r. ⌜ (r .board ≡ disarmBoard b number) × (outcomeOf (r .outcome) ≡ armAnswer number) ⌝ }
 {
-    if channel::is_outside(1, 4, number) {
-        return Written {
-            board: b,
-            outcome: Outcome::Refused(Refusal::OutOfRange),
-        };
-    }
-    let c = channel::disarm(b.channel(number as u8));
-    Written {
-        board: b.with_channel(number as u8, c),
-        outcome: Outcome::Done,
-    }
+    set_armed(b, number, false)
 }
 
 // A reply to the named channel, stored in its part.
@@ -150,15 +140,15 @@ pub fn reply(b: Board, readbacks: &mut [u32], number: u32, frame: u64) -> Receiv
             receipt: Receipt::Refused(Refusal::OutOfRange),
         };
     }
-    let c = b.channel(number as u8);
-    let size = m as usize * 2;
-    let a = base(number as u8, size);
-    let e = a + size;
+    let k = number as u8;
+    let c = b.channel(k);
+    let a = board_state::part_start(k, m, 2);
+    let e = a + m as usize * 2;
     let w = c.reply(&mut readbacks[a..e], m, b.user, frame);
     let x = w.channel;
     let receipt = w.receipt;
     Received {
-        board: b.with_channel(number as u8, x),
+        board: b.with_channel(k, x),
         receipt: receipt,
     }
 }
@@ -192,14 +182,13 @@ pub fn retired_length<'a>(b: Board, number: u32, one: &'a [u32], two: &'a [u32])
 
 // One channel's tick, over its part of the setpoints.
 fn tick_channel(b: Board, setpoints: &[u32], number: u8) -> channel_core::Ticked
-    requires { ⌜ (1 ≤ number) × (number ≤ 4) × (length (now setpoints) ≡ b .n * 64) ⌝ }
+    requires { ⌜ (number ≤ 4) × (length (now setpoints) ≡ b .n * 64) ⌝ }
     ensures { λ r. ⌜ (r .channel ≡ tickChannel b (now (setpoints .entry)) number) × (lineOf (r .line) ≡ tickFrame b (now (setpoints .entry)) number) ⌝ }
 {
     let n = b.n;
     let c = b.channel(number);
-    let size = n as usize * 16;
-    let a = base(number, size);
-    let e = a + size;
+    let a = board_state::part_start(number, n, 16);
+    let e = a + n as usize * 16;
     c.tick(&setpoints[a..e], n, b.user)
 }
 
@@ -235,14 +224,13 @@ pub fn tick(b: Board, setpoints: &[u32]) -> Ticked
 
 // One channel's share of an event, over its part of the readbacks.
 fn event_channel(b: Board, readbacks: &mut [u32], number: u8, code: u8) -> Board
-    requires { ⌜ (1 ≤ number) × (number ≤ 4) × (length (now readbacks) ≡ b .m * 8) ⌝ }
+    requires { ⌜ (number ≤ 4) × (length (now readbacks) ≡ b .m * 8) ⌝ }
     ensures { λ r. ⌜ (r ≡ eventBoardAt b code number) × (now (readbacks .exit) ≡ eventWordsAt b (now (readbacks .entry)) code number) ⌝ }
 {
     let m = b.m;
     let c = b.channel(number);
-    let size = m as usize * 2;
-    let a = base(number, size);
-    let e = a + size;
+    let a = board_state::part_start(number, m, 2);
+    let e = a + m as usize * 2;
     let x = c.event(&mut readbacks[a..e], m, b.user, code);
     b.with_channel(number, x)
 }

@@ -7,13 +7,13 @@ use refusal::Refusal;
 use register_map::Region;
 use register_map::Verdict;
 ghost use mathlib.Core.Path.{_≡_};
-ghost use Prim.Native.Nat.{_+_, _-_, _*_, _<_, _≤_};
+ghost use Prim.Native.Nat.{_*_, _≤_};
 ghost use lib.ListN.{length};
 ghost use Rattle.channel.specs.Answers.{outcomeOf, shownOf};
 ghost use Rattle.channel.specs.Calls.{writtenOf, writtenAnswer, writtenWords};
 ghost use Rattle.register_map.specs.Addresses.{main, channel};
 ghost use Rattle.board_state.specs.State.{channelAt, withChannelAt};
-ghost use Rattle.board.specs.Parts.{own, withOwn};
+ghost use Rattle.board_state.specs.Parts.{own, withOwn};
 ghost use Rattle.board.specs.Calls.{readbackSize, writeBoardAt, writeAnswerAt, writeBoard, writeAnswer, writeWords, readBoardAt, readAnswerAt, readBoard, readAnswer};
 
 pub struct Read {
@@ -21,24 +21,15 @@ pub struct Read {
     pub shown: Shown,
 }
 
-// Where a channel's part of a memory starts.
-fn base(number: u8, size: usize) -> usize
-    requires { ⌜ (1 ≤ number) × (number ≤ 4) × (size < 2147483648 * 64) ⌝ }
-    ensures { λ r. ⌜ (r ≡ (number - 1) * size) × (r + size ≤ 4 * size) ⌝ }
-{
-    (number - 1) as usize * size
-}
-
 // A write to a channel's register, over its part of the readbacks.
 fn write_channel(b: Board, readbacks: &mut [u32], number: u8, offset: u16, value: u16) -> Written
-    requires { ⌜ (1 ≤ number) × (number ≤ 4) × (length (now readbacks) ≡ b .m * 8) ⌝ }
+    requires { ⌜ (number ≤ 4) × (length (now readbacks) ≡ b .m * 8) ⌝ }
     ensures { λ r. ⌜ (r .board ≡ withChannelAt b number (writtenOf (channelAt b number) offset value)) × (outcomeOf (r .outcome) ≡ writtenAnswer offset value) × (now (readbacks .exit) ≡ withOwn (now (readbacks .entry)) (readbackSize b) number (writtenWords (channelAt b number) (own (now (readbacks .entry)) (readbackSize b) number) (b .m) offset value)) ⌝ }
 {
     let m = b.m;
     let c = b.channel(number);
-    let size = m as usize * 2;
-    let a = base(number, size);
-    let e = a + size;
+    let a = board_state::part_start(number, m, 2);
+    let e = a + m as usize * 2;
     let w = channel::write_register(c, &mut readbacks[a..e], m, offset, value);
     let x = w.channel;
     let outcome = w.outcome;

@@ -1,8 +1,10 @@
-// The board's state: depths, current user, Main registers and four channels. It holds no rule of a channel's life.
+// The board's state: depths, current user, Main registers and four channels. It holds no rule of what a channel does.
 use channel_core::Channel;
 use status::weigh;
 ghost use mathlib.Core.Path.{_≡_};
+ghost use Prim.Native.Nat.{_*_};
 ghost use Rattle.channel.specs.Calls.{mainBit};
+ghost use Rattle.board_state.specs.Parts.{partStart};
 ghost use Rattle.board_state.specs.State.{opened, channelAt, withChannelAt, withUser, eventCame};
 ghost use Rattle.board_state.specs.Main.{mainWord, mainStatus, takenAt, statusRead, mainStored, mainWritten, mainValue, mainRead, levelOf, enabledBit};
 
@@ -21,6 +23,13 @@ pub struct Board {
     pub user: u8,
     pub main: Main,
     pub channels: [Channel; 4],
+}
+
+// Where a channel's part of a memory starts: the parts of channels 1 to 4 lie in a row, each of so many words to a unit of depth.
+pub fn part_start(number: u8, depth: u32, words: u8) -> usize
+    ensures { λ r. ⌜ r ≡ partStart number (depth * words) ⌝ }
+{
+    registers::zero_based(number) as usize * (depth as usize * words as usize)
 }
 
 // A Main status: D11 is 1, D10-D8 the user less 1, D7-D4 channels 4-1, D3 an event came.

@@ -1,22 +1,14 @@
 -- What a range test, and a setpoint write that is not refused, say of the numbers. Assumes nothing.
 use Prim.Native.Nat.{ℕ, _-_, _≤_, _<_}
-use mathlib.Core.Path.{_≡_, refl, sym, _∙_}
-use mathlib.Core.Bool.{Bool, true, false, cond, _||_}
+use mathlib.Core.Path.{_≡_, refl, sym}
+use mathlib.Core.Bool.{Bool, true, false, _||_}
 use native.Mathlib.Omega.{arith}
 use lib.Dec.{eqb, ltb}
-use borrow.Author.Tests.{ltb-false, leb-false, eq-eqb, eqb-true, eqb-false}
+use borrow.Author.Tests.{ltb-false, leb-false, eqb-true, eqb-false}
 use Rattle.status.specs.Bits.{bitOf}
 use Rattle.channel_core.specs.declared.Channel.{Channel}
 use Rattle.channel.specs.Calls.{outside, setpointRefusal}
-
--- false is not true
-pub clash : {A : Type 0} → false ≡ true → A
-clash e = let z : _≡_ {A = ℕ} 0 1 = cc in absurd (omega arith)
-
--- a refusal chain that comes to 0 passed its first test
-pub passed : (b : Bool) (k x : ℕ) → eqb k 0 ≡ false → cond b k x ≡ 0 → (b ≡ false) × (x ≡ 0)
-passed true k x n e = clash (sym n ∙ eq-eqb k 0 e)
-passed false k x n e = (refl, e)
+use Rattle.channel.proofs.Cases.{clash, passed}
 
 pub inside : (low high x : ℕ) → outside low high x ≡ false → (low ≤ x) × (x ≤ high)
 inside low high x e = go (ltb x low) refl e

@@ -1,4 +1,5 @@
--- Which of document 01's numbers and values each case of an answer in the code stands for.
+-- Document 01, 'Calls', and 'Code places and language forms': "For an answer that is an enum, a definition gives this paper's number and values
+-- for each of its cases, and the promises use that definition."
 use Rattle.refusal.specs.Refusals.{numberOf}
 use Rattle.channel_core.specs.Answers.{Answer}
 use Rattle.channel_core.specs.Answers as ans

@@ -1,7 +1,7 @@
 -- Document 01, 'Calls' and 'Register map': the calls that name a channel, over its own part of the lent memory.
 -- Each refusal is decided by one definition (0: none), in the order of document 01's table; what a call does goes by cases on it.
 use Prim.Native.Nat.{ℕ, _-_}
-use mathlib.Core.Bool.{Bool, true, false, cond, _&&_, _||_}
+use mathlib.Core.Bool.{Bool, cond, _&&_, _||_}
 use mathlib.Core.List.{List, []}
 use lib.ListN.{length, set}
 use lib.Dec.{eqb, leb, ltb}
@@ -121,6 +121,10 @@ armedOf c = withSequencer c (seq.armed (c .sequencer))
 -- "Disarm idles, without EE."
 unfoldable pub disarmedOf : Channel → Channel
 disarmedOf c = withSequencer c (seq.disarmed (c .sequencer))
+
+-- armed (`on`) or disarmed
+abbrev pub setArmed : Channel → Bool → Channel
+setArmed c on = cond on (armedOf c) (disarmedOf c)
 
 -- ---- Retired readbacks
 

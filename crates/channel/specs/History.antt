@@ -1,4 +1,5 @@
--- A history: what a channel by itself was called with, in which state, and what it ANSWERED. Laws over histories are stated with these.
+-- Document 01, 'A channel's life', over what calls ANSWERED. A history: what a channel by itself was called with, in which state, and what it
+-- answered. Laws over histories are stated with these.
 use Prim.Native.Nat.{ℕ, _+_}
 use mathlib.Core.Bool.{Bool, true, false, cond, _&&_, _||_}
 use mathlib.Core.List.{List, [], _∷_}

@@ -1,7 +1,7 @@
 -- Document 01, 'A channel's life': the one-channel definition. One channel by itself, fed calls with their arguments and lent LENGTHS alone,
 -- "never the board's answers or state". Its refusals follow "from the refusal table, the call and this state".
-use Prim.Native.Nat.{ℕ, _+_, _*_}
-use mathlib.Core.Bool.{Bool, true, false, cond}
+use Prim.Native.Nat.{ℕ, _*_}
+use mathlib.Core.Bool.{true, false, cond}
 use mathlib.Core.List.{List, [], _∷_}
 use lib.ListN.{length, take, drop}
 use lib.Dec.{eqb}
@@ -45,17 +45,18 @@ pub record OneChannel : Type 0 where
   pub setpoints : List ℕ
   pub readbacks : List ℕ
 
-abbrev pub withUser : OneChannel → ℕ → Channel → OneChannel
-withUser o user c = record { n = o .n; m = o .m; user = user; channel = c; setpoints = o .setpoints; readbacks = o .readbacks }
+-- the same with one of these changed
+abbrev pub withUser : OneChannel → ℕ → OneChannel
+withUser o user = record { n = o .n; m = o .m; user = user; channel = o .channel; setpoints = o .setpoints; readbacks = o .readbacks }
 
 abbrev pub withChannel : OneChannel → Channel → OneChannel
-withChannel o c = withUser o (o .user) c
+withChannel o c = record { n = o .n; m = o .m; user = o .user; channel = c; setpoints = o .setpoints; readbacks = o .readbacks }
 
 abbrev pub withSetpoints : OneChannel → List ℕ → OneChannel
 withSetpoints o s = record { n = o .n; m = o .m; user = o .user; channel = o .channel; setpoints = s; readbacks = o .readbacks }
 
-abbrev pub withReadbacks : OneChannel → Channel → List ℕ → OneChannel
-withReadbacks o c s = record { n = o .n; m = o .m; user = o .user; channel = c; setpoints = o .setpoints; readbacks = s }
+abbrev pub withReadbacks : OneChannel → List ℕ → OneChannel
+withReadbacks o s = record { n = o .n; m = o .m; user = o .user; channel = o .channel; setpoints = o .setpoints; readbacks = s }
 
 -- "It opens as the board does": user 1, and its words as they are
 abbrev pub oneChannel : ℕ → ℕ → List ℕ → List ℕ → OneChannel
@@ -101,7 +102,7 @@ refusalOf o (readMain offset) = readRefusal (mainAccess offset)
 
 -- "A user change to another user idles every channel"
 abbrev pub userChange : OneChannel → ℕ → OneChannel
-userChange o user = cond (eqb user (o .user)) o (withUser o user (userChanged (o .channel)))
+userChange o user = cond (eqb user (o .user)) o (withUser (withChannel o (userChanged (o .channel))) user)
 
 -- "reading Main 28 or 2A answers its bit and clears it there, and other Main uses change nothing in it"
 abbrev pub mainRead : Channel → ℕ → Channel
@@ -109,19 +110,19 @@ mainRead c offset = cond (eqb offset 0x28) (mainTaken c false) (cond (eqb offset
 
 unfoldable pub effect : OneChannel → ChannelCall → OneChannel
 effect o (writeRegister lent offset value) =
-    withReadbacks o (registerEffect (o .channel) offset value) (registerWords (o .channel) (o .readbacks) (o .m) offset value)
+    withReadbacks (withChannel o (registerEffect (o .channel) offset value)) (registerWords (o .channel) (o .readbacks) (o .m) offset value)
 effect o (readRegister offset) = withChannel o (readEffect (o .channel) offset)
 effect o (writeSetpoint lent user buffer index word) =
     withSetpoints o (setpointWords (o .channel) (o .setpoints) (o .n) user buffer index word)
 effect o arm = withChannel o (armedOf (o .channel))
 effect o disarm = withChannel o (disarmedOf (o .channel))
 effect o (reply lent f) =
-    withReadbacks o (replyOf (o .channel) (o .m) f) (replyWords (o .channel) (o .readbacks) (o .m) (o .user) f)
+    withReadbacks (withChannel o (replyOf (o .channel) (o .m) f)) (replyWords (o .channel) (o .readbacks) (o .m) (o .user) f)
 effect o (retired one two) = o
 effect o (retiredLength one two) = o
 effect o (tick lent) = withChannel o (tickOf (o .channel) (o .setpoints) (o .n) (o .user))
 effect o (event lent code) =
-    withReadbacks o (eventOf (o .channel) (o .user) code) (eventWords (o .channel) (o .readbacks) (o .m) code)
+    withReadbacks (withChannel o (eventOf (o .channel) (o .user) code)) (eventWords (o .channel) (o .readbacks) (o .m) code)
 effect o (changeUser user) = userChange o user
 effect o (writeMain lent offset value) = o
 effect o (readMain offset) = withChannel o (mainRead (o .channel) offset)
@@ -139,7 +140,7 @@ bufferTwo o = take (o .m) (drop (o .m) (o .readbacks))
 unfoldable pub retiredOf : OneChannel → List ℕ
 retiredOf o = retiredPart (secondActive (o .channel .registers) readbackPlace) (o .channel .readbacks .retired) (bufferOne o) (bufferTwo o)
 
--- of a Main read the channel hears its bit of 28 or 2A, of another Main use only that it was done
+-- a read of 28 or 2A answers the channel its bit there, another Main use only that it was done
 abbrev pub mainAnswer : Channel → ℕ → Answer
 mainAnswer c offset =
     cond (eqb offset 0x28) (ans.bit (mainBit c false)) (cond (eqb offset 0x2a) (ans.bit (mainBit c true)) ans.done)

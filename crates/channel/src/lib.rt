@@ -4,10 +4,9 @@ use refusal::Refusal;
 use register_map::Verdict;
 use registers::Registers;
 ghost use mathlib.Core.Path.{_≡_};
-ghost use lib.ListN.{length};
 ghost use Rattle.register_map.specs.Verdicts.{verdictNumber};
 ghost use Rattle.channel.specs.Answers.{outcomeOf, shownOf, lengthOf};
-ghost use Rattle.channel.specs.Calls.{registerRefusal, registerEffect, registerWords, writtenOf, writtenAnswer, writtenWords, readEffect, readValue, readOf, readAnswer, outside, activeBuffer, setpointRefusal, setpointAnswer, setpointWords, armedOf, disarmedOf, retiredRefusal, retiredWords, retiredLength, mainBit, mainTaken};
+ghost use Rattle.channel.specs.Calls.{registerRefusal, registerEffect, registerWords, writtenOf, writtenAnswer, writtenWords, readEffect, readValue, readOf, readAnswer, outside, activeBuffer, setpointRefusal, setpointAnswer, setpointWords, setArmed, retiredWords, retiredLength, mainBit, mainTaken};
 
 // The answer of a call that has nothing to tell but that it was done.
 pub enum Outcome {
@@ -229,20 +228,16 @@ pub fn write_setpoint(
     }
 }
 
-pub fn arm(c: Channel) -> Channel
-    ensures { λ r. ⌜ r ≡ armedOf c ⌝ }
+// Armed (`on`) or disarmed.
+pub fn set_armed(c: Channel, on: bool) -> Channel
+    ensures { λ r. ⌜ r ≡ setArmed c on ⌝ }
 {
     let q = c.sequencer;
     let mut x = c;
-    x.sequencer = q.armed();
-    x
-}
-
-pub fn disarm(c: Channel) -> Channel
-    ensures { λ r. ⌜ r ≡ disarmedOf c ⌝ }
-{
-    let q = c.sequencer;
-    let mut x = c;
+    if on {
+        x.sequencer = q.armed();
+        return x;
+    }
     x.sequencer = q.disarmed();
     x
 }

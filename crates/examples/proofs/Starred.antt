@@ -4,7 +4,7 @@ use mathlib.Core.Path.{refl, subst}
 use mathlib.Core.Bool.{false}
 use Rattle.frame.specs.Crc.{crcOf}
 use Rattle.frame.specs.Frames.{crcFor, encoded, read, crcRight}
-use Rattle.sequencer.proofs.Moves as transitions
+use Rattle.sequencer.proofs.Moves as moves
 use Rattle.readback.specs.Storing.{storedWord}
 use Rattle.channel.specs.OneChannel.{transition}
 use Rattle.timing.specs.Ticking.{NextFrame}
@@ -39,7 +39,7 @@ resume-rows = record { delay-25 = λ o code h e. resume-25 o code h e; delay-0 =
 
 word-rows : WordRows
 unfolding storedWord
-word-rows = record { d31-with-d16 = λ word last pause. transitions.last-bit word false last; stored-word = refl }
+word-rows = record { d31-with-d16 = λ word last pause. moves.last-bit word false last; stored-word = refl }
 
 pub starred : Starred
 starred = record { frames = frame-rows; delays = delay-rows; resumes = resume-rows; words = word-rows; runs = run-rows }

@@ -1,4 +1,5 @@
--- The channels that the rows of Starred.antt speak of exist: opened with depths 2 and 1 and zeroed words, and led there by calls.
+-- Document 01, 'Marked * and unmarked examples': the channels that the rows of Starred.antt speak of exist. Opened with depths 2 and 1 and zeroed words,
+-- and led there by calls.
 use Prim.Native.Nat.{ℕ}
 use mathlib.Core.Path.{_≡_}
 use mathlib.Core.Bool.{true}

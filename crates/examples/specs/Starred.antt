@@ -1,4 +1,4 @@
--- Document 01, "Marked * and unmarked examples": the starred ones, as rows of one proposition, `Starred`. A group of rows is a record of its own.
+-- Document 01, 'Marked * and unmarked examples': the starred ones, as rows of one proposition, `Starred`. A group of rows is a record of its own.
 use mathlib.Core.Path.{_≡_}
 use mathlib.Core.Bool.{true, false, cond}
 use Prim.Native.Nat.{ℕ, _+_, _-_, _^_, _≤_, _<_}

@@ -1,4 +1,4 @@
--- Document 01, Frame: "The CRC", worked out by long division of the message times x^8, "high bit first, starting from 0".
+-- Document 01, 'Frame': "The CRC", worked out by long division of the message times x^8, "high bit first, starting from 0".
 -- That it is the remainder is a law: `CrcLaws` in Laws.antt. A message is the number that its bits write, and so a polynomial.
 use mathlib.Core.Bool.{Bool, cond}
 use mathlib.Core.List.{List, [], _∷_}

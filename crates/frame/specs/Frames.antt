@@ -1,4 +1,4 @@
--- Document 01, Frame: "43 bits, high to low: start 0, Frame ID 8, data 16, auxiliary 8, CRC 8, stop 11". `word` is the data, `aux` the auxiliary bits.
+-- Document 01, 'Frame': "43 bits, high to low: start 0, Frame ID 8, data 16, auxiliary 8, CRC 8, stop 11". `word` is the data, `aux` the auxiliary bits.
 use mathlib.Core.Bool.{Bool, cond, _&&_}
 use Prim.Native.Nat.{ℕ, _+_, _*_, _/_, _%_, _^_}
 use lib.Dec.{ltb, eqb}

@@ -1,4 +1,4 @@
--- The laws of the frame and its CRC, as statements. proofs/Laws.antt proves each record.
+-- Document 01, 'Frame': the laws of the frame and its CRC, as statements. proofs/Laws.antt proves each record.
 use mathlib.Core.Path.{_≡_}
 use mathlib.Core.Bool.{Bool, true, false}
 use mathlib.Core.List.{List}

@@ -1,4 +1,4 @@
--- Document 01, Frame: a "polynomial .. over two-valued coefficients", and "the remainder .. by x^8 + x^7 + x^5 + x^4 + x + 1".
+-- Document 01, 'Frame': a "polynomial .. over two-valued coefficients", and "the remainder .. by x^8 + x^7 + x^5 + x^4 + x + 1".
 -- A polynomial is the number whose binary digit k is the coefficient of x^k: the sum of two is `bitXor`, times x^k is `* 2 ^ k`, and a degree below k
 -- is `< 2 ^ k`.
 use mathlib.Core.Path.{_≡_}

@@ -17,9 +17,10 @@ use Rattle.channel.specs.Calls.{registerEffect, readEffect, mainTaken, armedOf,
 use Rattle.channel.specs.OneChannel.{ChannelCall, OneChannel, effect, answer, transition, response, mainRead, mainAnswer, userChange}
 use Rattle.channel.specs.OneChannel as call
 use Rattle.channel.specs.History.{entry, asksGroupEnd, asksReset, endsGroup, resets}
+use Rattle.channel.proofs.Cases.{either}
 use Rattle.histories.specs.Windows.{asksIdle, stops}
 use Rattle.histories.proofs.Keeps.{keeps-armed, keeps-event, keeps-command}
-use Rattle.histories.proofs.Cases.{either, by-offset}
+use Rattle.histories.proofs.Cases.{by-offset}
 use Rattle.histories.proofs.Refusing.{by-refusal}
 use Rattle.histories.proofs.Steps.{Plain, Steps, keeps-steps, kept-steps, same-steps, idle-steps, tick-steps, reply-steps}
 
@@ -54,12 +55,12 @@ Has s c = c .sequencer ≡ s
 read-sequencer : (c : Channel) (offset : ℕ) → readEffect c offset .sequencer ≡ c .sequencer
 unfolding readEffect
 read-sequencer c offset =
-    either (Has (c .sequencer)) (eqb offset 0x02) _ _ refl (either (Has (c .sequencer)) (eqb offset 0x04) _ _ refl refl)
+    either (Has (c .sequencer)) (eqb offset 0x02) refl (either (Has (c .sequencer)) (eqb offset 0x04) refl refl)
 
 main-sequencer : (c : Channel) (offset : ℕ) → mainRead c offset .sequencer ≡ c .sequencer
 main-sequencer c offset =
-    either (Has (c .sequencer)) (eqb offset 0x28) _ _ (taken-sequencer c false)
-    (either (Has (c .sequencer)) (eqb offset 0x2a) _ _ (taken-sequencer c true) refl)
+    either (Has (c .sequencer)) (eqb offset 0x28) (taken-sequencer c false)
+    (either (Has (c .sequencer)) (eqb offset 0x2a) (taken-sequencer c true) refl)
 
 main-plain : (c : Channel) (offset : ℕ) → Plain (mainAnswer c offset)
 main-plain c offset = go (eqb offset 0x28) (eqb offset 0x2a)
@@ -75,7 +76,7 @@ user-steps o user = go (eqb user (o .user))
   where
     go : (b : Bool)
         → Steps (o .n) (o .channel .sequencer) ans.done false false (not b)
-        (cond b o (call.withUser o user (userChanged (o .channel))) .channel .sequencer)
+        (cond b o (call.withUser (call.withChannel o (userChanged (o .channel))) user) .channel .sequencer)
     go true = same-steps (o .n) (o .channel) ans.done (o .channel .sequencer) (refl, refl) refl
     go false = idle-steps (o .n) (o .channel .sequencer) (o .channel .sequencer .armed) false
 

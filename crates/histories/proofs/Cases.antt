@@ -1,19 +1,9 @@
--- Cases once for all: on a test, and on the offset of a register write. Assumes nothing.
+-- Cases on the offset of a register write, once for all. Assumes nothing.
 use Prim.Native.Nat.{ℕ}
 use mathlib.Core.Path.{_≡_, refl, sym, subst}
-use mathlib.Core.Bool.{Bool, true, false, cond}
+use mathlib.Core.Bool.{Bool, true, false}
 use lib.Dec.{eqb}
 use borrow.Author.Tests.{eqb-true}
-
--- what holds of both holds of either
-pub either : {A : Type 0} (P : A → Type 0) (b : Bool) (x y : A) → P x → P y → P (cond b x y)
-either P true x y p q = p
-either P false x y p q = q
-
--- the same, where the test is told
-pub by-test : {A : Type 0} (P : A → Type 0) (b : Bool) (x y : A) → (b ≡ true → P x) → (b ≡ false → P y) → P (cond b x y)
-by-test P true x y f g = f refl
-by-test P false x y f g = g refl
 
 at-or-not : (P : ℕ → Type 0) (a x : ℕ) → P a → (eqb x a ≡ false → P x) → P x
 at-or-not P a x h g = go (eqb x a) refl

@@ -5,7 +5,7 @@ use mathlib.Core.List.{List, [], _∷_}
 use lib.Dec.{eqb}
 use Rattle.channel_core.specs.Answers.{Answer}
 use Rattle.channel_core.specs.Behaviour.{userChanged}
-use Rattle.channel.specs.OneChannel.{ChannelCall, OneChannel, effect, transition, transitions, withUser}
+use Rattle.channel.specs.OneChannel.{ChannelCall, OneChannel, effect, transition, transitions, withUser, withChannel}
 use Rattle.channel.specs.OneChannel as call
 use Rattle.histories.proofs.Refusing.{by-refusal}
 
@@ -26,7 +26,7 @@ depths-effect o (call.tick lent) = (refl, refl)
 depths-effect o (call.event lent code) = (refl, refl)
 depths-effect o (call.changeUser user) = go (eqb user (o .user))
   where
-    go : (b : Bool) → SameDepths o (cond b o (withUser o user (userChanged (o .channel))))
+    go : (b : Bool) → SameDepths o (cond b o (withUser (withChannel o (userChanged (o .channel))) user))
     go true = (refl, refl)
     go false = (refl, refl)
 depths-effect o (call.writeMain lent offset value) = (refl, refl)

@@ -11,8 +11,8 @@ use Rattle.readback.specs.declared.Readbacks.{Readbacks}
 use Rattle.readback.specs.Storing.{capacity, keptIn, keptWords, endWord, endWords}
 use Rattle.readback.specs.Storing as rb
 use Rattle.channel.specs.OneChannel.{OneChannel}
+use Rattle.channel.proofs.Cases.{either}
 use Rattle.histories.specs.Keeping.{Kept, nothingKept, switched, keptWith}
-use Rattle.histories.proofs.Cases.{either}
 use Rattle.histories.proofs.Buffers.{front, front-more, front-left, front-other}
 
 -- buffer 2 is active or not, both counts, the words; and what was kept
@@ -30,11 +30,11 @@ HoldsIn o g = Holds (o .m) (secondActive (o .channel .registers) readbackPlace) 
 module _ (m : ℕ) (r : Readbacks) (s : List ℕ) (g : Kept) where
   end-held : (second : Bool) → front second m (r .stored) (endWords r s second m) ≡ front second m (r .stored) s
   end-held second =
-      either (λ (t : List ℕ). front second m (r .stored) t ≡ front second m (r .stored) s) (ltb (r .stored) m) _ s
+      either (λ (t : List ℕ). front second m (r .stored) t ≡ front second m (r .stored) s) (ltb (r .stored) m)
       (front-left second m (r .stored) endWord s) refl
 
   end-long : (second : Bool) → length (endWords r s second m) ≡ length s
-  end-long second = either (λ (t : List ℕ). length t ≡ length s) (ltb (r .stored) m) _ s (length-set s _ _) refl
+  end-long second = either (λ (t : List ℕ). length t ≡ length s) (ltb (r .stored) m) (length-set s _ _) refl
 
   pub holds-ended : (second : Bool) → Holds m second r s g → Holds m (not second) (rb.groupEnded r) (endWords r s second m) (switched g)
   holds-ended second h =

@@ -25,12 +25,13 @@ use Rattle.channel_core.specs.Answers.{Answer, part, partLength}
 use Rattle.channel_core.specs.Answers as ans
 use Rattle.channel_core.specs.Behaviour.{userChanged, groupEnded, groupWords, endedIf, endedWords, eventWords, commandWords, tickOf, dispositionNow, receiptAnswer, receivedChannel, receivedWords, replyAnswerAs, replyAs, replyWordsAs, replyAnswer, replyOf, replyWords}
 use Rattle.channel.specs.Calls.{registerEffect, registerWords, armedOf, disarmedOf}
-use Rattle.channel.specs.OneChannel.{ChannelCall, OneChannel, effect, answer, transition, response, transitions, mainAnswer, withUser, userChange, oneChannel, refusalOf, retiredOf}
+use Rattle.channel.specs.OneChannel.{ChannelCall, OneChannel, effect, answer, transition, response, transitions, mainAnswer, withUser, withChannel, userChange, oneChannel, refusalOf, retiredOf}
 use Rattle.channel.specs.OneChannel as call
 use Rattle.channel.specs.History.{entry, history, asksGroupEnd, asksReset}
+use Rattle.channel.proofs.Cases.{either}
 use Rattle.histories.specs.Ranges.{ChannelInRange}
 use Rattle.histories.specs.Keeping.{isKept, replyWord, callWord, Kept, nothingKept, switched, keptWith, keptAfter, keptSince, CountsKept, RetiresKept, keptOver}
-use Rattle.histories.proofs.Cases.{either, by-offset}
+use Rattle.histories.proofs.Cases.{by-offset}
 use Rattle.histories.proofs.Refusing.{by-refusal, accepted-response}
 use Rattle.histories.proofs.Depths.{depths-kept}
 use Rattle.histories.proofs.Leaves.{Leaves, leaves-all, leaves-event, leaves-command, leaves-read, leaves-main}
@@ -49,12 +50,12 @@ stored-active : (r : Registers) (offset value : ℕ) → stored r offset value .
 unfolding stored
 stored-active r offset value =
     let P : Registers → Type 0 = λ x. x .active ≡ r .active in
-    either P (eqb offset 0x0a) _ _ refl
-    (either P (eqb offset 0x14) _ _ refl
-    (either P (ltb offset 0x20) _ _ refl
-    (either P (ltb offset 0x2c) _ _ refl
-    (either P (ltb offset 0x30) _ _ refl
-    (either P (ltb offset 0x40) _ _ refl (either P (ltb offset 0xe0) _ r refl refl))))))
+    either P (eqb offset 0x0a) refl
+    (either P (eqb offset 0x14) refl
+    (either P (ltb offset 0x20) refl
+    (either P (ltb offset 0x2c) refl
+    (either P (ltb offset 0x30) refl
+    (either P (ltb offset 0x40) refl (either P (ltb offset 0xe0) refl refl))))))
 
 module _ (g : Kept) where
   -- a channel over these words
@@ -140,13 +141,13 @@ module _ (g : Kept) where
   plain : (o : OneChannel) (b : Bool) (c : Channel) → Leaves (o .channel) c → HoldsIn o g → HoldsOver (o .m) (o .readbacks) (keptWith g (cond b [] [])) c
   plain o b c l h =
       leaves-holds (o .m) (o .readbacks) (keptWith g (cond b [] [])) l
-      (either (λ (t : List ℕ). HoldsIn o (keptWith g t)) b [] [] (same o h) (same o h))
+      (either (λ (t : List ℕ). HoldsIn o (keptWith g t)) b (same o h) (same o h))
 
   user-holds : (o : OneChannel) (user : ℕ) → HoldsIn o g → HoldsIn (userChange o user) (keptWith g [])
   unfolding userChanged
   user-holds o user h = go (eqb user (o .user))
     where
-      go : (b : Bool) → HoldsIn (cond b o (withUser o user (userChanged (o .channel)))) (keptWith g [])
+      go : (b : Bool) → HoldsIn (cond b o (withUser (withChannel o (userChanged (o .channel))) user)) (keptWith g [])
       go true = same o h
       go false = same o h
 

@@ -1,5 +1,5 @@
 -- Arming, Start and Resume keep the count and the last send, idle no channel, and keep the countdowns in range. Assumes nothing.
-use Prim.Native.Nat.{ℕ, _≤_}
+use Prim.Native.Nat.{ℕ, _≤_, _<_}
 use mathlib.Core.Path.{_≡_, refl, _∙_, subst}
 use mathlib.Core.Bool.{Bool, true, false}
 use native.Mathlib.Omega.{arith}
@@ -13,18 +13,18 @@ use Rattle.channel_core.specs.Behaviour.{startedIf, resumedIf, resumedOn, event
 use Rattle.channel_core.specs.Behaviour as core
 use Rattle.status.specs.Bits.{bitAt}
 use Rattle.registers.specs.Map.{triggersOf, groupEndEvent}
-use Rattle.channel.proofs.Ranges.{clash}
-use Rattle.histories.specs.Ranges.{CountdownInRange, UnderWay}
-use Rattle.histories.proofs.Cases.{either}
+use Rattle.channel.proofs.Cases.{clash, either}
+use Rattle.histories.specs.Ranges.{CountdownInRange, Countdown}
 
 pub record Keeps (s t : Sequencer) : Type 0 where
   pub count-kept : t .count ≡ s .count
   pub last-kept : t .last ≡ s .last
   pub idle-kept : isIdle (t .stage) ≡ true → isIdle (s .stage) ≡ true
-  pub playing-kept : (n : ℕ) → 1 ≤ n → UnderWay n s → UnderWay n t
+  pub index-kept : (n : ℕ) → 1 ≤ n → s .index < n → t .index < n
+  pub countdown-kept : Countdown s → Countdown t
 
 pub keeps-all : (s : Sequencer) → Keeps s s
-keeps-all s = record { count-kept = refl; last-kept = refl; idle-kept = λ e. e; playing-kept = λ n h p. p }
+keeps-all s = record { count-kept = refl; last-kept = refl; idle-kept = λ e. e; index-kept = λ n h i. i; countdown-kept = λ p. p }
 
 pub keeps-both : {s t u : Sequencer} → Keeps s t → Keeps t u → Keeps s u
 keeps-both a b =
@@ -32,7 +32,8 @@ keeps-both a b =
       count-kept = b .count-kept ∙ a .count-kept;
       last-kept = b .last-kept ∙ a .last-kept;
       idle-kept = λ e. a .idle-kept (b .idle-kept e);
-      playing-kept = λ n h p. b .playing-kept n h (a .playing-kept n h p);
+      index-kept = λ n h i. b .index-kept n h (a .index-kept n h i);
+      countdown-kept = λ p. b .countdown-kept (a .countdown-kept p);
     }
 
 pub keeps-armed : (s : Sequencer) → Keeps s (armed s)
@@ -42,7 +43,8 @@ keeps-armed s =
       count-kept = refl;
       last-kept = refl;
       idle-kept = λ e. e;
-      playing-kept = λ n h p. record { index-due = p .index-due; countdown = p .countdown };
+      index-kept = λ n h i. i;
+      countdown-kept = λ p. p;
     }
 
 keeps-started : (s : Sequencer) (delay : ℕ) → Keeps s (started s delay)
@@ -52,7 +54,8 @@ keeps-started s delay =
       count-kept = refl;
       last-kept = refl;
       idle-kept = λ e. clash e;
-      playing-kept = λ n h p. record { index-due = h; countdown = omega arith };
+      index-kept = λ n h i. h;
+      countdown-kept = λ p. omega arith;
     }
 
 -- what is loaded in a pause counts on
@@ -65,12 +68,8 @@ keeps-loaded s k delay e =
       count-kept = refl;
       last-kept = refl;
       idle-kept = λ f. clash f;
-      playing-kept =
-          λ n h p.
-          record {
-            index-due = p .index-due;
-            countdown = (loaded-countdown k (s .left) (s .resume) (s .stage) e (p .countdown), omega arith);
-          };
+      index-kept = λ n h i. i;
+      countdown-kept = λ p. (loaded-countdown k (s .left) (s .resume) (s .stage) e p, omega arith);
     }
 
 keeps-resumed : (s : Sequencer) (pause delay : ℕ) → Keeps s (resumed s pause delay)
@@ -81,14 +80,14 @@ keeps-resumed s pause delay = go (s .stage) refl
     go stage.Idle e = keeps-all s
     go stage.Starting e = keeps-all s
     go stage.Running e = keeps-all s
-    go (stage.Paused k) e = either (Keeps s) (eqb k pause) (loadedResume s delay) s (keeps-loaded s k delay e) (keeps-all s)
+    go (stage.Paused k) e = either (Keeps s) (eqb k pause) (keeps-loaded s k delay e) (keeps-all s)
     go stage.Resuming e = keeps-all s
     go stage.Ended e = keeps-all s
 
 keeps-channel-started : (c : Channel) (delay : ℕ) → Keeps (c .sequencer) (core.started c delay .sequencer)
 unfolding core.started
 keeps-channel-started c delay =
-    either (λ (x : Channel). Keeps (c .sequencer) (x .sequencer)) (c .sequencer .armed) _ c (keeps-started (c .sequencer) delay) (keeps-all (c .sequencer))
+    either (λ (x : Channel). Keeps (c .sequencer) (x .sequencer)) (c .sequencer .armed) (keeps-started (c .sequencer) delay) (keeps-all (c .sequencer))
 
 keeps-started-if : (on : Bool) (c : Channel) (delay : ℕ) → Keeps (c .sequencer) (startedIf on c delay .sequencer)
 unfolding startedIf

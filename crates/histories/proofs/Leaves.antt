@@ -12,7 +12,7 @@ use Rattle.channel_core.specs.State.{conditionLatched}
 use Rattle.channel_core.specs.Behaviour.{started, startedIf, endedIf, resumedIf, resumedOn, eventOf, commanded}
 use Rattle.channel.specs.Calls.{readEffect, mainTaken}
 use Rattle.channel.specs.OneChannel.{mainRead}
-use Rattle.histories.proofs.Cases.{either}
+use Rattle.channel.proofs.Cases.{either}
 
 pub record Leaves (c d : Channel) : Type 0 where
   pub registers : d .registers ≡ c .registers
@@ -27,16 +27,16 @@ leaves-both a b = record { registers = b .registers ∙ a .registers; readbacks 
 leaves-started : (on : Bool) (c : Channel) (delay : ℕ) → Leaves c (startedIf on c delay)
 unfolding startedIf started
 leaves-started true c delay =
-    either (Leaves c) (c .sequencer .armed) _ c
+    either (Leaves c) (c .sequencer .armed)
     (leaves-both
-    (either (Leaves c) (isIdle (c .sequencer .stage)) (conditionLatched c run) c (record { registers = refl; readbacks = refl }) (leaves-all c))
+    (either (Leaves c) (isIdle (c .sequencer .stage)) (record { registers = refl; readbacks = refl }) (leaves-all c))
     (record { registers = refl; readbacks = refl }))
     (leaves-all c)
 leaves-started false c delay = leaves-all c
 
 leaves-resumed : (on : Bool) (c : Channel) (pause delay : ℕ) → Leaves c (resumedIf on c pause delay)
 unfolding resumedIf
-leaves-resumed on c pause delay = either (Leaves c) on _ c (record { registers = refl; readbacks = refl }) (leaves-all c)
+leaves-resumed on c pause delay = either (Leaves c) on (record { registers = refl; readbacks = refl }) (leaves-all c)
 
 -- what one event or command does after its Group End, if any
 pub leaves-event : (c : Channel) (user code : ℕ) → Leaves (endedIf (triggersOf (c .registers) groupEndEvent code) c) (eventOf c user code)
@@ -54,14 +54,14 @@ leaves-command c value = leaves-both (leaves-started _ _ _) (leaves-resumed _ _ 
 pub leaves-read : (c : Channel) (offset : ℕ) → Leaves c (readEffect c offset)
 unfolding readEffect
 leaves-read c offset =
-    either (Leaves c) (eqb offset 0x02) _ _ (record { registers = refl; readbacks = refl })
-    (either (Leaves c) (eqb offset 0x04) _ c (record { registers = refl; readbacks = refl }) (leaves-all c))
+    either (Leaves c) (eqb offset 0x02) (record { registers = refl; readbacks = refl })
+    (either (Leaves c) (eqb offset 0x04) (record { registers = refl; readbacks = refl }) (leaves-all c))
 
 leaves-taken : (c : Channel) (polling : Bool) → Leaves c (mainTaken c polling)
 unfolding mainTaken
 leaves-taken c polling =
-    either (Leaves c) polling _ _ (record { registers = refl; readbacks = refl }) (record { registers = refl; readbacks = refl })
+    either (Leaves c) polling (record { registers = refl; readbacks = refl }) (record { registers = refl; readbacks = refl })
 
 pub leaves-main : (c : Channel) (offset : ℕ) → Leaves c (mainRead c offset)
 leaves-main c offset =
-    either (Leaves c) (eqb offset 0x28) _ _ (leaves-taken c false) (either (Leaves c) (eqb offset 0x2a) _ c (leaves-taken c true) (leaves-all c))
+    either (Leaves c) (eqb offset 0x28) (leaves-taken c false) (either (Leaves c) (eqb offset 0x2a) (leaves-taken c true) (leaves-all c))

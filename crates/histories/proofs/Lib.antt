@@ -1,6 +1,7 @@
 pub mod Cases
 pub mod Refusing
 pub mod Depths
+pub mod Lengths
 pub mod Keeps
 pub mod Ticks
 pub mod Steps

@@ -26,8 +26,7 @@ use Rattle.readback.specs.Storing.{keptIn, capacity}
 use Rattle.channel_core.specs.declared.Channel.{Channel}
 use Rattle.channel_core.specs.State.{opened, reset, withStatus, withRegisters, withSequencer, conditionLatched}
 use Rattle.channel_core.specs.Behaviour.{started, startedIf, endedIf, resumedIf, resumedOn, eventOf, commanded, groupEnded, earlyEnded, userChanged, sendStatus, dueOf, playedOf, tickOf, crcStatus, dispositionNow, receivedChannel, replyAs, replyOf}
-use Rattle.histories.proofs.Cases.{either, by-test}
-use Rattle.channel.proofs.Ranges.{clash}
+use Rattle.channel.proofs.Cases.{clash, either, by-test}
 use Rattle.histories.proofs.Ticks.{Latching, plays-ticked}
 use Rattle.histories.specs.Statuses.{isCondition}
 use Rattle.histories.specs.Ranges.{BitsInRange, StatusInRange, RegistersInRange, ReadbacksInRange, ChannelInRange}
@@ -59,12 +58,12 @@ latched-range s bit c h =
     }
 
 early-range : (s : Status) (q : Sequencer) → StatusInRange s → StatusInRange (earlyEnded s q)
-early-range s q h = either StatusInRange (unfinished q) (latched s earlyEnd) s (latched-range s earlyEnd refl h) h
+early-range s q h = either StatusInRange (unfinished q) (latched-range s earlyEnd refl h) h
 
 send-range : (s : Status) (x : Transmission) → Latching x → StatusInRange s → StatusInRange (sendStatus s x)
 send-range s transmission.Nothing l h = h
 send-range s (transmission.Word word k) l h =
-    by-test StatusInRange (eqb k 0) s (latched s k) (λ e. h) (λ e. latched-range s k (rw e at l) h)
+    by-test StatusInRange (eqb k 0) (λ e. h) (λ e. latched-range s k (rw e at l) h)
 
 crc-range : (s : Status) (right : Bool) → StatusInRange s → StatusInRange (crcStatus s right)
 crc-range s true h = h
@@ -95,18 +94,18 @@ pub stored-range : (r : Registers) (offset value : ℕ) → (eqb offset 0x0a ≡
 unfolding stored
 stored-range r offset value code h =
     let P = RegistersInRange in
-    by-test P (eqb offset 0x0a) _ _
+    by-test P (eqb offset 0x0a)
     (λ e. record { clock = code e; active = h .active; events = h .events; switches = h .switches; delays = h .delays })
     (λ e.
-    either P (eqb offset 0x14) _ _
+    either P (eqb offset 0x14)
     (record { clock = h .clock; active = h .active; events = h .events; switches = h .switches; delays = h .delays })
-    (either P (ltb offset 0x20) _ _ h
-    (either P (ltb offset 0x2c) _ _
+    (either P (ltb offset 0x20) h
+    (either P (ltb offset 0x2c)
     (record { clock = h .clock; active = h .active; events = simp length-set (h .events); switches = h .switches; delays = h .delays })
-    (either P (ltb offset 0x30) _ _ h
-    (either P (ltb offset 0x40) _ _
+    (either P (ltb offset 0x30) h
+    (either P (ltb offset 0x40)
     (record { clock = h .clock; active = h .active; events = h .events; switches = simp length-set (h .switches); delays = h .delays })
-    (either P (ltb offset 0xe0) _ _
+    (either P (ltb offset 0xe0)
     (record { clock = h .clock; active = h .active; events = h .events; switches = h .switches; delays = simp length-set (h .delays) })
     h))))))
 
@@ -143,9 +142,9 @@ module _ (m : ℕ) where
   started-range : (c : Channel) (delay : ℕ) → ChannelInRange m c → ChannelInRange m (started c delay)
   unfolding started
   started-range c delay h =
-      either (ChannelInRange m) (c .sequencer .armed) _ c
+      either (ChannelInRange m) (c .sequencer .armed)
       (with-sequencer _ _
-      (either (ChannelInRange m) (isIdle (c .sequencer .stage)) (conditionLatched c run) c
+      (either (ChannelInRange m) (isIdle (c .sequencer .stage))
       (with-status c _ (latched-range (c .status) run refl (h .status)) h) h))
       h
 
@@ -160,15 +159,15 @@ module _ (m : ℕ) where
 
   ended-if-range : (on : Bool) (c : Channel) → ChannelInRange m c → ChannelInRange m (endedIf on c)
   unfolding endedIf
-  ended-if-range on c h = either (ChannelInRange m) on _ c (group-range c h) h
+  ended-if-range on c h = either (ChannelInRange m) on (group-range c h) h
 
   started-if-range : (on : Bool) (c : Channel) (delay : ℕ) → ChannelInRange m c → ChannelInRange m (startedIf on c delay)
   unfolding startedIf
-  started-if-range on c delay h = either (ChannelInRange m) on _ c (started-range c delay h) h
+  started-if-range on c delay h = either (ChannelInRange m) on (started-range c delay h) h
 
   resumed-if-range : (on : Bool) (c : Channel) (pause delay : ℕ) → ChannelInRange m c → ChannelInRange m (resumedIf on c pause delay)
   unfolding resumedIf
-  resumed-if-range on c pause delay h = either (ChannelInRange m) on _ c (with-sequencer c _ h) h
+  resumed-if-range on c pause delay h = either (ChannelInRange m) on (with-sequencer c _ h) h
 
   pub event-range : (c : Channel) (user code : ℕ) → ChannelInRange m c → ChannelInRange m (eventOf c user code)
   unfolding eventOf resumedOn
@@ -194,7 +193,7 @@ module _ (m : ℕ) where
   kept-range r h =
       record {
         stored =
-            by-test (λ (x : ℕ). x ≤ m) (ltb (r .stored) (capacity m)) (r .stored + 1) (r .stored)
+            by-test (λ (x : ℕ). x ≤ m) (ltb (r .stored) (capacity m))
             (λ e. omega (arith, ltb-true (r .stored) m e)) (λ e. h .stored);
         retired = h .retired;
       }

@@ -22,11 +22,12 @@ use Rattle.channel_core.specs.Behaviour.{userChanged, groupWords, endedWords, e
 use Rattle.channel.specs.Calls.{registerRefusal, registerEffect, registerWords, readEffect, outside, setpointRefusal, setpointWords, armedOf, disarmedOf, mainTaken}
 use Rattle.channel.specs.OneChannel.{ChannelCall, OneChannel, oneChannel, then, lengthRefusal, refusalOf, effect, transition, transitions, mainRead, withUser, withChannel, withReadbacks, userRefusal}
 use Rattle.channel.specs.OneChannel as call
-use Rattle.channel.proofs.Ranges.{clash, passed, inside}
+use Rattle.channel.proofs.Cases.{clash, passed, either}
+use Rattle.channel.proofs.Ranges.{inside}
 use Rattle.histories.specs.Ranges.{SequencerInRange, ChannelInRange, InRange, CallKeepsRange, StaysInRange}
-use Rattle.histories.proofs.Cases.{either}
 use Rattle.histories.proofs.Calls.{steps}
 use Rattle.histories.proofs.Depths.{depths-step}
+use Rattle.histories.proofs.Lengths.{SameLength, event-length, register-length, setpoint-length, reply-length}
 use Rattle.histories.proofs.Parts.{none-range, stored-range, with-status, with-registers, with-sequencer, opened-range, reset-range, event-range, command-range, user-range, tick-range, reply-range}
 use Rattle.histories.proofs.Refusing.{by-refusal}
 
@@ -60,18 +61,18 @@ register-range : (m : ℕ) (c : Channel) (offset value : ℕ) → registerRefusa
 unfolding registerEffect
 register-range m c offset value e h =
     let P = ChannelInRange m in
-    either P (eqb offset 0x00) _ _
+    either P (eqb offset 0x00)
     (with-status m c _ (record { enable = enable-drops value; interrupt = h .status .interrupt; polling = h .status .polling }) h)
-    (either P (eqb offset 0x06) _ _ (either P (bitAt value 0) _ c (reset-range m c) h)
-    (either P (eqb offset 0x08) _ _ (command-range m c value h)
+    (either P (eqb offset 0x06) (either P (bitAt value 0) (reset-range m c) h)
+    (either P (eqb offset 0x08) (command-range m c value h)
     (with-registers m c _ (stored-range (c .registers) offset value (clock-passed offset value e) (h .registers)) h)))
 
 read-range : (m : ℕ) (c : Channel) (offset : ℕ) → ChannelInRange m c → ChannelInRange m (readEffect c offset)
 unfolding readEffect
 read-range m c offset h =
     let P = ChannelInRange m in
-    either P (eqb offset 0x02) _ _ (with-status m c _ (record { enable = h .status .enable; interrupt = none-range; polling = h .status .polling }) h)
-    (either P (eqb offset 0x04) _ _ (with-status m c _ (record { enable = h .status .enable; interrupt = h .status .interrupt; polling = none-range }) h) h)
+    either P (eqb offset 0x02) (with-status m c _ (record { enable = h .status .enable; interrupt = none-range; polling = h .status .polling }) h)
+    (either P (eqb offset 0x04) (with-status m c _ (record { enable = h .status .enable; interrupt = h .status .interrupt; polling = none-range }) h) h)
 
 taken-range : (m : ℕ) (c : Channel) (polling : Bool) → ChannelInRange m c → ChannelInRange m (mainTaken c polling)
 unfolding mainTaken
@@ -81,38 +82,7 @@ taken-range m c false h = with-status m c _ (record { enable = h .status .enable
 main-range : (m : ℕ) (c : Channel) (offset : ℕ) → ChannelInRange m c → ChannelInRange m (mainRead c offset)
 main-range m c offset h =
     let P = ChannelInRange m in
-    either P (eqb offset 0x28) _ _ (taken-range m c false h) (either P (eqb offset 0x2a) _ c (taken-range m c true h) h)
-
--- ---- The words' lengths
-
-abbrev Long : List ℕ → List ℕ → Type 0
-Long s t = length t ≡ length s
-
-ended-long : (on : Bool) (c : Channel) (s : List ℕ) (m : ℕ) → Long s (endedWords on c s m)
-unfolding endedWords groupWords
-ended-long on c s m = either (Long s) on _ s (either (Long s) (ltb (c .readbacks .stored) m) _ s (length-set s _ _) refl) refl
-
-register-long : (c : Channel) (s : List ℕ) (m offset value : ℕ) → Long s (registerWords c s m offset value)
-unfolding registerWords commandWords
-register-long c s m offset value = either (Long s) (eqb offset 0x08) _ s (ended-long (bitAt value 2) c s m) refl
-
-setpoint-long : (c : Channel) (s : List ℕ) (n user buffer index word : ℕ) → Long s (setpointWords c s n user buffer index word)
-unfolding setpointWords
-setpoint-long c s n user buffer index word =
-    either (Long s) (eqb (setpointRefusal c n user buffer index) 0) _ s (length-set s _ _) refl
-
-disposition-long : (d : Disposition) (c : Channel) (s : List ℕ) (m word : ℕ) → Long s (receivedWords d c s m word)
-disposition-long disposition.Unsolicited c s m word = refl
-disposition-long disposition.Lost c s m word = refl
-disposition-long disposition.Kept c s m word = either (Long s) (ltb (c .readbacks .stored) m) _ s (length-set s _ _) refl
-
-reply-long : (c : Channel) (s : List ℕ) (m user f : ℕ) → Long s (replyWords c s m user f)
-unfolding replyWords
-reply-long c s m user f = go (read f)
-  where
-    go : (g : Reading) → Long s (replyWordsAs g c s m user)
-    go (frame.refused k) = refl
-    go (frame.fields id word aux crc) = disposition-long (dispositionNow c m) c s m _
+    either P (eqb offset 0x28) (taken-range m c false h) (either P (eqb offset 0x2a) (taken-range m c true h) h)
 
 -- ---- Each call
 
@@ -123,13 +93,13 @@ channel-stays : (o : OneChannel) (c : Channel) → (ChannelInRange (o .m) (o .ch
 channel-stays o c f = record { user = λ u. u; channel = f; setpoint-words = refl; readback-words = refl }
 
 readbacks-stay : (o : OneChannel) (c : Channel) (s : List ℕ) → (ChannelInRange (o .m) (o .channel) → ChannelInRange (o .m) c)
-    → Long (o .readbacks) s → Stays o (withReadbacks o c s)
+    → SameLength (o .readbacks) s → Stays o (withReadbacks (withChannel o c) s)
 readbacks-stay o c s f l = record { user = λ u. u; channel = f; setpoint-words = refl; readback-words = l }
 
 user-stays : (o : OneChannel) (user : ℕ) → userRefusal user ≡ 0 → Stays o (call.userChange o user)
 user-stays o user e = go (eqb user (o .user))
   where
-    go : (b : Bool) → Stays o (cond b o (withUser o user (userChanged (o .channel))))
+    go : (b : Bool) → Stays o (cond b o (withUser (withChannel o (userChanged (o .channel))) user))
     go true = all-stays o
     go false =
         record {
@@ -140,27 +110,27 @@ user-stays o user e = go (eqb user (o .user))
         }
 
 effect-stays : (o : OneChannel) (k : ChannelCall) → refusalOf o k ≡ 0 → Stays o (effect o k)
-unfolding refusalOf effect armedOf disarmedOf eventWords
+unfolding refusalOf effect armedOf disarmedOf
 effect-stays o (call.writeRegister lent offset value) e =
     let f = then-passed (lengthRefusal lent (o .m * 8)) (registerRefusal offset value) e .1 in
-    readbacks-stay o _ _ (register-range (o .m) (o .channel) offset value f) (register-long (o .channel) (o .readbacks) (o .m) offset value)
+    readbacks-stay o _ _ (register-range (o .m) (o .channel) offset value f) (register-length (o .channel) (o .readbacks) (o .m) offset value)
 effect-stays o (call.readRegister offset) e = channel-stays o _ (read-range (o .m) (o .channel) offset)
 effect-stays o (call.writeSetpoint lent user buffer index word) e =
     record {
       user = λ u. u;
       channel = λ h. h;
-      setpoint-words = setpoint-long (o .channel) (o .setpoints) (o .n) user buffer index word;
+      setpoint-words = setpoint-length (o .channel) (o .setpoints) (o .n) user buffer index word;
       readback-words = refl;
     }
 effect-stays o call.arm e = channel-stays o _ (with-sequencer (o .m) (o .channel) _)
 effect-stays o call.disarm e = channel-stays o _ (with-sequencer (o .m) (o .channel) _)
 effect-stays o (call.reply lent f) e =
-    readbacks-stay o _ _ (reply-range (o .m) (o .channel) f) (reply-long (o .channel) (o .readbacks) (o .m) (o .user) f)
+    readbacks-stay o _ _ (reply-range (o .m) (o .channel) f) (reply-length (o .channel) (o .readbacks) (o .m) (o .user) f)
 effect-stays o (call.retired one two) e = all-stays o
 effect-stays o (call.retiredLength one two) e = all-stays o
 effect-stays o (call.tick lent) e = channel-stays o _ (tick-range (o .m) (o .channel) (o .setpoints) (o .n) (o .user))
 effect-stays o (call.event lent code) e =
-    readbacks-stay o _ _ (event-range (o .m) (o .channel) (o .user) code) (ended-long _ (o .channel) (o .readbacks) (o .m))
+    readbacks-stay o _ _ (event-range (o .m) (o .channel) (o .user) code) (event-length (o .channel) (o .readbacks) (o .m) code)
 effect-stays o (call.changeUser user) e = user-stays o user e
 effect-stays o (call.writeMain lent offset value) e = all-stays o
 effect-stays o (call.readMain offset) e = channel-stays o _ (main-range (o .m) (o .channel) offset)
@@ -189,7 +159,8 @@ range-step o k h =
     let u = f .user (h .user-from, h .user-to) in
     let q : SequencerInRange (o .n) (transition o k .channel .sequencer) =
     record {
-      playing = steps o k .playing-step (h .depth) (h .sequencer .playing);
+      index-due = steps o k .index-step (h .depth) (h .sequencer .index-due);
+      countdown = steps o k .countdown-step (h .sequencer .countdown);
       replies = steps o k .replies-step (h .sequencer .replies);
       quiet = steps o k .quiet-step (h .sequencer .quiet);
     }
@@ -220,7 +191,7 @@ stays-in-range n m setpoints readbacks some more s r ks =
       user-to = omega arith;
       channel = opened-range m;
       sequencer =
-          record { playing = record { index-due = some; countdown = tt }; replies = omega arith; quiet = λ e. refl };
+          record { index-due = some; countdown = tt; replies = omega arith; quiet = λ e. refl };
       setpoint-words = s;
       readback-words = r;
     })

@@ -28,9 +28,9 @@ by-refusal P o k h g = go (eqb (refusalOf o k) 0) refl
     go true e = h e
     go false e = g
 
-pub accepted-transitions : (o : OneChannel) (k : ChannelCall) → eqb (refusalOf o k) 0 ≡ true → transition o k ≡ effect o k
+pub accepted-transition : (o : OneChannel) (k : ChannelCall) → eqb (refusalOf o k) 0 ≡ true → transition o k ≡ effect o k
 unfolding transition
-accepted-transitions o k h = ap (λ (b : Bool). cond b (effect o k) o) h
+accepted-transition o k h = ap (λ (b : Bool). cond b (effect o k) o) h
 
 pub accepted-response : (o : OneChannel) (k : ChannelCall) → eqb (refusalOf o k) 0 ≡ true → response o k ≡ answer o k
 unfolding response

@@ -19,7 +19,7 @@ use Rattle.histories.specs.Windows.{Window, closed, windowSince}
 use Rattle.histories.specs.Ranges.{Quiet}
 use Rattle.histories.specs.Keeping.{Kept, keptOver}
 use Rattle.histories.specs.Replying.{dueByWindow, hasSpace, storedAfter, Replied, RepliesByWindow}
-use Rattle.histories.proofs.Refusing.{accepted-transitions, accepted-response}
+use Rattle.histories.proofs.Refusing.{accepted-transition, accepted-response}
 use Rattle.histories.proofs.Ticks.{sendWindow, windowOf}
 use Rattle.histories.proofs.Depths.{depths-kept}
 use Rattle.histories.proofs.Windows.{window-is, quiet-from}
@@ -68,7 +68,7 @@ module _
         ≡ cond (dueByWindow w && hasSpace (o .m) g) (length (g .current) + 1) (length (g .current))
     unfolding effect replyOf call
     count =
-        ap (λ (x : OneChannel). x .channel .readbacks .stored) (accepted-transitions o call not-refused)
+        ap (λ (x : OneChannel). x .channel .readbacks .stored) (accepted-transition o call not-refused)
         ∙ rw (framed, disposed) (go (dueByWindow w) (hasSpace (o .m) g) refl)
       where
         go : (due space : Bool) → hasSpace (o .m) g ≡ space
@@ -85,7 +85,7 @@ module _
         (o .readbacks)
     unfolding effect replyWords call
     words =
-        ap (λ (x : OneChannel). x .readbacks) (accepted-transitions o call not-refused)
+        ap (λ (x : OneChannel). x .readbacks) (accepted-transition o call not-refused)
         ∙ rw (framed, disposed) (go (dueByWindow w) (hasSpace (o .m) g) refl)
       where
         x : ℕ

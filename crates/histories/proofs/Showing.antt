@@ -16,7 +16,7 @@ use Rattle.channel.specs.Calls.{registerEffect, readValue}
 use Rattle.channel.specs.OneChannel.{ChannelCall, OneChannel, oneChannel, refusalOf, effect, answer, transition, response, transitions, readRegister}
 use Rattle.channel.specs.OneChannel as call
 use Rattle.channel.specs.History.{entry, history, asksGroupEnd, endsGroup, framesSince}
-use Rattle.channel.proofs.Ranges.{clash}
+use Rattle.channel.proofs.Cases.{clash}
 use Rattle.histories.specs.Counting.{mostCounted, ShowsFrames}
 use Rattle.histories.proofs.Counting.{counts-frames}
 use Rattle.histories.proofs.Cases.{by-offset}

@@ -1,5 +1,5 @@
 -- One call's step of the sequencer, whatever the call: its count, its last send, its countdowns. Assumes nothing.
-use Prim.Native.Nat.{ℕ, _+_, _≤_}
+use Prim.Native.Nat.{ℕ, _+_, _≤_, _<_}
 use mathlib.Core.Path.{_≡_, refl, sym, _∙_, ap, subst}
 use mathlib.Core.Bool.{Bool, true, false, cond, not, _||_, _&&_, or-not-self}
 use native.Mathlib.Omega.{arith}
@@ -24,9 +24,9 @@ use Rattle.channel_core.specs.declared.Channel.{Channel}
 use Rattle.channel_core.specs.Answers.{Answer, isFrame, isReceived}
 use Rattle.channel_core.specs.Answers as ans
 use Rattle.channel_core.specs.Behaviour.{endedIf, groupEnded, sendFrame, dispositionNow, receiptAnswer, receivedChannel, replyAs, replyAnswerAs, replyOf, replyAnswer}
-use Rattle.channel.proofs.Ranges.{clash}
+use Rattle.channel.proofs.Cases.{clash}
 use Rattle.histories.specs.Windows.{Window, closed}
-use Rattle.histories.specs.Ranges.{UnderWay, Quiet}
+use Rattle.histories.specs.Ranges.{Countdown, Quiet}
 use Rattle.histories.proofs.Keeps.{Keeps, keeps-all}
 use Rattle.histories.proofs.Ticks.{sendWindow, windowOf, windowSent, plays-ticked}
 
@@ -42,7 +42,8 @@ pub record Steps (n : ℕ) (s : Sequencer) (a : Answer) (ends again stops : Bool
   pub quiet-step : Quiet s → Quiet t
   pub window-step : windowOf t ≡ cond (ends || (again || stops)) closed (observed a (windowOf s))
   pub replies-step : s .last .replies ≤ 6 → t .last .replies ≤ 6
-  pub playing-step : 1 ≤ n → UnderWay n s → UnderWay n t
+  pub index-step : 1 ≤ n → s .index < n → t .index < n
+  pub countdown-step : Countdown s → Countdown t
 
 -- an answer to neither a tick nor a reply
 abbrev pub Plain : Answer → Type 0
@@ -61,7 +62,8 @@ keeps-steps n c a true t h k =
       quiet-step = λ q e. k .last-kept;
       window-step = ap sendWindow (k .last-kept);
       replies-step = λ e. omega (arith, ap (λ (l : LastSend). l .replies) (k .last-kept));
-      playing-step = λ e p. k .playing-kept n e (record { index-due = e; countdown = tt });
+      index-step = λ e i. k .index-kept n e e;
+      countdown-step = λ p. k .countdown-kept tt;
     }
 keeps-steps n c a false t h k =
     record {
@@ -69,7 +71,8 @@ keeps-steps n c a false t h k =
       quiet-step = λ q e. k .last-kept ∙ q (k .idle-kept e);
       window-step = ap sendWindow (k .last-kept) ∙ sym (observed-plain a (windowOf (c .sequencer)) h);
       replies-step = λ e. omega (arith, ap (λ (l : LastSend). l .replies) (k .last-kept));
-      playing-step = λ e p. k .playing-kept n e p;
+      index-step = k .index-kept n;
+      countdown-step = k .countdown-kept;
     }
 
 pub kept-steps : (n : ℕ) (c : Channel) (a : Answer) (t : Sequencer) → Plain a → Keeps (c .sequencer) t → Steps n (c .sequencer) a false false false t
@@ -91,7 +94,8 @@ idle-steps n s armed again =
       quiet-step = λ q e. refl;
       window-step = sym (ap (λ (b : Bool). cond b closed (windowOf s)) (or-not-self again));
       replies-step = λ e. omega arith;
-      playing-step = λ e p. record { index-due = e; countdown = tt };
+      index-step = λ e i. e;
+      countdown-step = λ p. tt;
     }
 
 -- ---- A tick
@@ -118,7 +122,8 @@ tick-steps n s r due p some =
       quiet-step = a .stays-quiet;
       window-step = a .window ∙ window-frame r x (windowOf s);
       replies-step = λ e. omega (arith, ap (λ (w : Window). w .replies) (a .window), window-few x (windowOf s) e);
-      playing-step = λ e p. a .plays some p;
+      index-step = λ e. a .index-due;
+      countdown-step = a .countdown some;
     }
 
 -- ---- A reply
@@ -142,7 +147,8 @@ answered-steps n s a plain received e =
       quiet-step = λ q f. clash (sym (d .0) ∙ f);
       window-step = rw (plain, received, d .1);
       replies-step = λ f. rw (d .1) (omega (arith, ltb-true (s .last .replies) 6 (d .1)));
-      playing-step = λ f p. record { index-due = p .index-due; countdown = p .countdown };
+      index-step = λ f i. i;
+      countdown-step = λ p. p;
     }
 
 disposition-steps : (n : ℕ) (c : Channel) (m : ℕ) (right : Bool)

@@ -17,11 +17,10 @@ use Rattle.sequencer.specs.declared.Transmission.{Transmission}
 use Rattle.sequencer.specs.declared.Transmission.the-variants as transmission
 use Rattle.sequencer.specs.declared.Ticked.{Ticked}
 use Rattle.sequencer.specs.Playing.{isIdle, quiet, withLeft, withResume, sentAs, sentNext, repeated, advancing, repeating, resuming, tickedAt, ticked}
-use Rattle.channel.proofs.Ranges.{clash}
+use Rattle.channel.proofs.Cases.{clash, either, by-test}
 use Rattle.histories.specs.Windows.{Window}
 use Rattle.histories.specs.Statuses.{isCondition}
-use Rattle.histories.specs.Ranges.{CountdownInRange, UnderWay, Quiet}
-use Rattle.histories.proofs.Cases.{either, by-test}
+use Rattle.histories.specs.Ranges.{CountdownInRange, Countdown, Quiet}
 
 -- the last send, if any, and the replies after it, as the sequencer holds them
 abbrev pub sendWindow : LastSend → Window
@@ -43,7 +42,8 @@ pub record Plays (n p : ℕ) (s : Sequencer) (t : Ticked) : Type 0 where
   pub window : windowOf (t .sequencer) ≡ windowSent (t .transmission) (windowOf s)
   pub latches : Latching (t .transmission)
   pub stays-quiet : Quiet s → Quiet (t .sequencer)
-  pub plays : 1 ≤ p → UnderWay n s → UnderWay n (t .sequencer)
+  pub index-due : s .index < n → t .sequencer .index < n
+  pub countdown : 1 ≤ p → Countdown s → Countdown (t .sequencer)
 
 countdown-left : (g : Stage) (left resume l : ℕ) → 1 ≤ l → CountdownInRange g left resume → CountdownInRange g l resume
 countdown-left stage.Idle left resume l h c = c
@@ -77,12 +77,12 @@ Asks end kind.Last = Unit {0}
 asks : (word : ℕ) (end : Bool) → Asks end (kindOf word end)
 asks word true = tt
 asks word false =
-    either (Asks false) (bitAt word 31) kind.Last _ tt
-    (either (Asks false) (bitAt word 16) (kind.Pause 1) _ (refl, omega arith)
-    (either (Asks false) (bitAt word 17) (kind.Pause 2) _ (refl, omega arith)
-    (either (Asks false) (bitAt word 18) (kind.Pause 3) _ (refl, omega arith)
-    (either (Asks false) (bitAt word 19) (kind.Pause 4) _ (refl, omega arith)
-    (either (Asks false) (bitAt word 20) (kind.Pause 0) kind.Plain (refl, omega arith) refl)))))
+    either (Asks false) (bitAt word 31) tt
+    (either (Asks false) (bitAt word 16) (refl, omega arith)
+    (either (Asks false) (bitAt word 17) (refl, omega arith)
+    (either (Asks false) (bitAt word 18) (refl, omega arith)
+    (either (Asks false) (bitAt word 19) (refl, omega arith)
+    (either (Asks false) (bitAt word 20) (refl, omega arith) refl)))))
 
 sent-index : (n index : ℕ) (k : Kind) → Asks (atEnd n index) k → index < n → indexAfter k index < n
 sent-index n index kind.Plain a h = omega (arith, leb-false n (index + 1) a)
@@ -109,12 +109,8 @@ plays-sent s due n p =
       window = refl;
       latches = sent-latches (atEnd n (s .index)) k a;
       stays-quiet = λ q e. clash (sym (after-busy k) ∙ e);
-      plays =
-          λ h c.
-          record {
-            index-due = sent-index n (s .index) k a (c .index-due);
-            countdown = sent-countdown (atEnd n (s .index)) p k a h;
-          };
+      index-due = sent-index n (s .index) k a;
+      countdown = λ h c. sent-countdown (atEnd n (s .index)) p k a h;
     }
 
 -- ---- Waiting, repeating, resuming
@@ -125,30 +121,28 @@ plays-wait s n p l h =
       window = refl;
       latches = tt;
       stays-quiet = λ q. q;
-      plays =
-          λ g c.
-          record { index-due = c .index-due; countdown = countdown-left (s .stage) (s .left) (s .resume) l h (c .countdown) };
+      index-due = λ i. i;
+      countdown = λ g. countdown-left (s .stage) (s .left) (s .resume) l h;
     }
 
 plays-advancing : (s : Sequencer) (due n p : ℕ) → Plays n p s (advancing s due n p)
 unfolding advancing
 plays-advancing s due n p =
-    by-test (Plays n p s) (leb (s .left) 1) (sentNext s due n p) (quiet (withLeft s (s .left - 1)))
+    by-test (Plays n p s) (leb (s .left) 1)
     (λ e. plays-sent s due n p)
     (λ e. plays-wait s n p (s .left - 1) (omega (arith, leb-false (s .left) 1 e)))
 
 plays-repeating : (s : Sequencer) (n p : ℕ) → isIdle (s .stage) ≡ false → Plays n p s (repeating s p)
 unfolding repeating repeated
 plays-repeating s n p busy =
-    by-test (Plays n p s) (leb (s .left) 1) (repeated s p) (quiet (withLeft s (s .left - 1)))
+    by-test (Plays n p s) (leb (s .left) 1)
     (λ e.
     record {
       window = refl;
       latches = refl;
       stays-quiet = λ q i. clash (sym busy ∙ i);
-      plays =
-          λ g c.
-          record { index-due = c .index-due; countdown = countdown-left (s .stage) (s .left) (s .resume) p g (c .countdown) };
+      index-due = λ i. i;
+      countdown = λ g. countdown-left (s .stage) (s .left) (s .resume) p g;
     })
     (λ e. plays-wait s n p (s .left - 1) (omega (arith, leb-false (s .left) 1 e)))
 
@@ -159,24 +153,22 @@ plays-resume s n p r t h a =
       window = a .window;
       latches = a .latches;
       stays-quiet = a .stays-quiet;
-      plays =
-          λ g c.
-          a .plays g
-          (record { index-due = c .index-due; countdown = countdown-resume (s .stage) (s .left) (s .resume) r h (c .countdown) });
+      index-due = a .index-due;
+      countdown = λ g c. a .countdown g (countdown-resume (s .stage) (s .left) (s .resume) r h c);
     }
 
 plays-quiet : (s : Sequencer) (n p : ℕ) → Plays n p s (quiet s)
-plays-quiet s n p = record { window = refl; latches = tt; stays-quiet = λ q. q; plays = λ g c. c }
+plays-quiet s n p = record { window = refl; latches = tt; stays-quiet = λ q. q; index-due = λ i. i; countdown = λ g c. c }
 
 plays-resuming : (s : Sequencer) (due n p : ℕ) → isIdle (s .stage) ≡ false → Plays n p s (resuming s due n p)
 unfolding resuming
 plays-resuming s due n p busy =
     let u = withResume s (s .resume - 1) in
-    by-test (Plays n p s) (leb (s .resume) 1) (sentNext s due n p) (cond (leb (s .resume) 10) (quiet u) (repeating u p))
+    by-test (Plays n p s) (leb (s .resume) 1)
     (λ e. plays-sent s due n p)
     (λ e.
     let more : 1 ≤ s .resume - 1 = omega (arith, leb-false (s .resume) 1 e) in
-    by-test (Plays n p s) (leb (s .resume) 10) (quiet u) (repeating u p)
+    by-test (Plays n p s) (leb (s .resume) 10)
     (λ f. plays-resume s n p (s .resume - 1) (quiet u) more (plays-quiet u n p))
     (λ f. plays-resume s n p (s .resume - 1) (repeating u p) more (plays-repeating u n p busy)))
 

@@ -1,4 +1,5 @@
--- What a channel's state keeps to, over any list of calls: so no default past a list's end or below a range is ever used.
+-- Document 01, 'The bench and its memory' and 'A channel's life': the ranges of what a channel holds, which it keeps to over any list of calls. So no
+-- default past a list's end or below a range is ever used.
 use Prim.Native.Nat.{ℕ, _*_, _≤_, _<_}
 use mathlib.Core.Path.{_≡_}
 use mathlib.Core.Bool.{Bool, true, false}
@@ -25,16 +26,16 @@ CountdownInRange (stage.Paused k) left resume = (1 ≤ left) × (k ≤ 4)
 CountdownInRange stage.Resuming left resume = (1 ≤ left) × (1 ≤ resume)
 CountdownInRange stage.Ended left resume = 1 ≤ left
 
-pub record UnderWay (n : ℕ) (s : Sequencer) : Type 0 where
-  pub index-due : s .index < n
-  pub countdown : CountdownInRange (s .stage) (s .left) (s .resume)
+abbrev pub Countdown : Sequencer → Type 0
+Countdown s = CountdownInRange (s .stage) (s .left) (s .resume)
 
 -- the last send is one "since idle"
 abbrev pub Quiet : Sequencer → Type 0
 Quiet s = isIdle (s .stage) ≡ true → s .last ≡ nothingSent
 
 pub record SequencerInRange (n : ℕ) (s : Sequencer) : Type 0 where
-  pub playing : UnderWay n s
+  pub index-due : s .index < n
+  pub countdown : Countdown s
   pub replies : s .last .replies ≤ 6
   pub quiet : Quiet s
 

@@ -1,14 +1,14 @@
 -- Small laws: choices, refusals, and a list of four of which all are stored. Assumes nothing.
-use Prim.Native.Nat.{ℕ, zero, suc, _+_, _-_, _*_, _/_, _%_, _≤_, _<_}
-use mathlib.Core.Path.{_≡_, refl, sym, ap, ap₂}
-use mathlib.Core.Bool.{Bool, true, false, cond}
+use Prim.Native.Nat.{ℕ, zero, suc, _-_}
+use mathlib.Core.Path.{_≡_, refl, ap}
+use mathlib.Core.Bool.{Bool, true, false}
 use mathlib.Core.List.{List, [], _∷_}
 use native.Mathlib.Omega.{arith}
 use lib.ListN.{length, getD, set}
 use lib.Seq.{getD-set-same, getD-set-other, set-getD}
-use lib.Dec.{eqb, ltb}
-use borrow.Author.Tests.{ltb-true, ltb-false, le-ltb, lt-ltb}
-use Rattle.register_map.specs.Addresses.{named, main, channel, nothing}
+use lib.Dec.{eqb}
+use borrow.Author.Tests.{le-ltb}
+use Rattle.register_map.specs.Addresses.{named, channel}
 use Rattle.channel_core.specs.declared.Channel.{Channel}
 use Rattle.channel_core.specs.State.{opened}
 use Rattle.channel_core.specs.Answers.{Answer, isRefusal}
@@ -16,16 +16,11 @@ use Rattle.channel.specs.Calls.{unless}
 use Rattle.board_state.specs.declared.Board.{Board}
 use Rattle.board_state.specs.State.{channelAt, withChannelAt, withChannels}
 use Rattle.board.specs.Calls.{noChannel}
-use Rattle.isolation.specs.Feeding.{ofFour}
+use Rattle.register_map.proofs.Laws.{named-channel}
+use Rattle.channel.proofs.Cases.{clash}
+use Rattle.channel.proofs.Ranges.{inside}
+use Rattle.board.specs.Answers.{ofFour}
 use Rattle.isolation.proofs.Parts.{Number}
-
-pub clash : {A : Type 0} → false ≡ true → A
-clash e = let z : _≡_ {A = ℕ} 0 1 = ap (λ (t : Bool). cond {A = ℕ} t 1 0) e in absurd (omega arith)
-
--- a choice, by both its cases
-pub cond-case : {A : Type 0} (P : A → Type 0) (t : Bool) {x y : A} → (t ≡ true → P x) → (t ≡ false → P y) → P (cond t x y)
-cond-case P true f g = f refl
-cond-case P false f g = g refl
 
 -- what is refused, though its answer is none, is so by its number
 pub unless-refused : (k : ℕ) (a : Answer) → isRefusal a ≡ false → isRefusal (unless k a) ≡ true → eqb k 0 ≡ false
@@ -62,7 +57,7 @@ of-four f (suc (suc (suc zero))) h = refl
 of-four f (suc (suc (suc (suc zero)))) h = refl
 of-four f (suc (suc (suc (suc (suc c))))) h = absurd (omega arith)
 
--- a channel after one is put back
+-- a channel after one is stored
 pub withChannelAt-same : (b : Board) (c : ℕ) (x : Channel) → length (b .channels) ≡ 4 → Number c → channelAt (withChannelAt b c x) c ≡ x
 withChannelAt-same b c x e h = getD-set-same (b .channels) (c - 1) x opened (omega arith)
 
@@ -78,35 +73,8 @@ pub in-range : (c : ℕ) → Number c → noChannel c ≡ false
 in-range c h = rw (le-ltb c 1 (h .low), le-ltb 4 c (h .high))
 
 pub range-in : (c : ℕ) → noChannel c ≡ false → Number c
-range-in c e = go (ltb c 1) refl (ltb 4 c) refl
-  where
-    go : (t : Bool) → ltb c 1 ≡ t → (q : Bool) → ltb 4 c ≡ q → Number c
-    go true p q r = clash (sym (rw p at e))
-    go false p true r = clash (sym (rw (p, r) at e))
-    go false p false r = record { low = ltb-false c 1 p; high = ltb-false 4 c r }
+range-in c e = let r = inside 1 4 c e in record { low = r .0; high = r .1 }
 
 -- an address that names a channel names one of the four
 pub named-number : (a d o : ℕ) → named a ≡ channel d o → Number d
-unfolding named
-named-number a d o e = go (ltb a 0x800) refl (ltb a 0x2800) refl
-  where
-    go : (t : Bool) → ltb a 0x800 ≡ t → (q : Bool) → ltb a 0x2800 ≡ q → Number d
-    go true p q r =
-        let n : main a ≡ channel d o = rw p at e in
-        let z : _≡_ {A = ℕ} 0 1 = cc in absurd (omega arith)
-    go false p true r =
-        let n : channel (a / 0x800) (a % 0x800) ≡ channel d o = rw (p, r) at e in
-        let q : a / 0x800 ≡ d = cc in
-        let l : 0x800 ≤ a = ltb-false a 0x800 p in
-        let u : a < 0x2800 = ltb-true a 0x2800 r in
-        record { low = omega arith; high = omega arith }
-    go false p false r =
-        let n : nothing ≡ channel d o = rw (p, r) at e in
-        let z : _≡_ {A = ℕ} 0 1 = cc in absurd (omega arith)
-
--- the address of a channel's offset
-pub named-at : (c o : ℕ) → Number c → o < 0x800 → named (0x800 * c + o) ≡ channel c o
-unfolding named
-named-at c o h l =
-    rw (le-ltb (0x800 * c + o) 0x800 (omega arith), lt-ltb (0x800 * c + o) 0x2800 (omega arith))
-    (ap₂ channel (omega arith) (omega arith))
+named-number a d o e = let r = named-channel a e in record { low = r .0; high = r .1 }

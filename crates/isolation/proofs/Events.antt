@@ -8,19 +8,20 @@ use lib.ListN.{length, length-set}
 use lib.Dec.{eqb}
 use borrow.Author.Tests.{eqb-true, eqb-false}
 use Rattle.channel_core.specs.Behaviour as core
-use Rattle.channel.specs.OneChannel.{OneChannel, withReadbacks}
+use Rattle.channel.specs.OneChannel.{OneChannel}
+use Rattle.histories.proofs.Lengths.{event-length}
 use Rattle.board_state.specs.State.{channelAt}
-use Rattle.board.specs.Parts.{own}
+use Rattle.board_state.specs.Parts.{own}
 use Rattle.board.specs.Calls.{eventBoardAt, eventWordsAt, eventBoards, eventParts}
 use Rattle.board.specs.Worlds.{World}
 use Rattle.isolation.specs.Feeding.{view}
 use Rattle.isolation.proofs.Parts.{Number, own-length, own-mine, own-theirs, own-kept}
 use Rattle.isolation.proofs.Cases.{withChannelAt-same, withChannelAt-other}
-use Rattle.isolation.proofs.Words.{event-length}
+use Rattle.isolation.proofs.One.{withBoth}
 use Rattle.isolation.proofs.Worlds.{Good, parted-reads}
 
 abbrev pub evented : OneChannel → ℕ → OneChannel
-evented o k = withReadbacks o (core.eventOf (o .channel) (o .user) k) (core.eventWords (o .channel) (o .readbacks) (o .m) k)
+evented o k = withBoth o (core.eventOf (o .channel) (o .user) k) (core.eventWords (o .channel) (o .readbacks) (o .m) k)
 
 -- the event at channel d
 abbrev partly : World → ℕ → ℕ → World
@@ -51,13 +52,13 @@ module _ (w : World) (g : Good w) (k d : ℕ) (low : Number d) where
   view-part : view d (partly w k d) ≡ evented (view d w) k
   unfolding eventBoardAt eventWordsAt
   view-part =
-      ap₂ (withReadbacks (view d w)) (withChannelAt-same (w .board) d _ (g .four) low)
+      ap₂ (withBoth (view d w)) (withChannelAt-same (w .board) d _ (g .four) low)
       (own-mine (w .readbacks) (w .board .m * 2) part-whole d partWords low part-same)
 
   other-part : (c : ℕ) → Number c → (c ≡ d → ⊥) → view c (partly w k d) ≡ view c w
   unfolding eventBoardAt eventWordsAt
   other-part c h ne =
-      ap₂ (withReadbacks (view c w)) (withChannelAt-other (w .board) d c _ low h ne)
+      ap₂ (withBoth (view c w)) (withChannelAt-other (w .board) d c _ low h ne)
       (own-theirs (w .readbacks) (w .board .m * 2) part-whole d partWords low part-same c h ne)
 
 -- channels 1 to j done

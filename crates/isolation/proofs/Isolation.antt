@@ -11,17 +11,17 @@ use borrow.Author.Tests.{eqb-true}
 use Rattle.channel_core.specs.State as core
 use Rattle.channel_core.specs.Answers.{Answer}
 use Rattle.channel_core.specs.Answers as ans
-use Rattle.channel.specs.Calls.{outside}
+use Rattle.channel.proofs.Cases.{passed, let-on}
 use Rattle.channel.proofs.Ranges.{inside}
 use Rattle.channel.specs.OneChannel.{OneChannel, oneChannel, withChannel, transitions, responses}
+use Rattle.board_state.specs.declared.Board.{Board}
 use Rattle.board_state.specs.State as state
 use Rattle.board.specs.Calls.{openRefusal, openAnswer, openBoard}
-use Rattle.board.specs.Worlds.{World}
+use Rattle.board.specs.Worlds.{World, world}
 use Rattle.isolation.specs.Calls.{Item, refused, given, step, Fits, Allowed, opening}
 use Rattle.isolation.specs.Feeding.{feeds, fed, view}
 use Rattle.isolation.specs.Isolation.{oneChannelAt, MatchesOneChannel, Isolation, FedTheSame}
 use Rattle.isolation.proofs.Parts.{Number}
-use Rattle.isolation.proofs.Cases.{clash}
 use Rattle.isolation.proofs.One.{transitions-append, responses-append}
 use Rattle.isolation.proofs.Worlds.{Good, either, step-refused, step-given}
 use Rattle.isolation.proofs.Shapes.{good-plain}
@@ -60,52 +60,36 @@ open-channel n m (suc (suc (suc (suc zero)))) h = refl
 open-channel n m (suc (suc (suc (suc (suc c))))) h = absurd (omega arith)
 
 module _ (n m : ℕ) (s r : List ℕ) (e : openAnswer n m (length s) (length r) ≡ ans.done) where
-  not-refused : eqb (openRefusal n m (length s) (length r)) 0 ≡ true
+  not-refused : openRefusal n m (length s) (length r) ≡ 0
   unfolding openAnswer
   not-refused = go (eqb (openRefusal n m (length s) (length r)) 0) refl
     where
-      go : (t : Bool) → eqb (openRefusal n m (length s) (length r)) 0 ≡ t → t ≡ true
-      go true q = refl
-      go false q = let z : ans.refused (openRefusal n m (length s) (length r)) ≡ ans.done = rw q at e in
+      go : (t : Bool) → eqb (openRefusal n m (length s) (length r)) 0 ≡ t → openRefusal n m (length s) (length r) ≡ 0
+      go true q = eqb-true _ _ q
+      go false q =
+          let z : ans.refused (openRefusal n m (length s) (length r)) ≡ ans.done = rw q at e in
           let f : _≡_ {A = ℕ} 0 1 = cc in absurd (omega arith)
 
-  pub opened : openBoard n m (length s) (length r) ≡ state.opened n m
+  opened : openBoard n m (length s) (length r) ≡ state.opened n m
   unfolding openBoard
   opened = rw not-refused
 
-  pub open-lengths : (length s ≡ n * 64) × (length r ≡ m * 8)
+  -- "Depth N .. is 1 to 1,048,576. Depth M .. is 1 to 8,388,608.", "lent lengths other than 64 × N and 8 × M"
+  pub open-fits : (1 ≤ n) × (1 ≤ m) × (length s ≡ n * 64) × (length r ≡ m * 8)
   unfolding openRefusal
-  open-lengths =
-      go (outside 1 1048576 n) refl (outside 1 8388608 m) refl (eqb (length s) (n * 64)) refl (eqb (length r) (m * 8)) refl
-    where
-      go : (a : Bool) → outside 1 1048576 n ≡ a → (b : Bool) → outside 1 8388608 m ≡ b
-          → (t : Bool) → eqb (length s) (n * 64) ≡ t → (q : Bool) → eqb (length r) (m * 8) ≡ q
-          → (length s ≡ n * 64) × (length r ≡ m * 8)
-      go true p b k t x q y = clash (rw p at not-refused)
-      go false p true k t x q y = clash (rw (p, k) at not-refused)
-      go false p false k false x q y = clash (rw (p, k, x) at not-refused)
-      go false p false k true x false y = clash (rw (p, k, x, y) at not-refused)
-      go false p false k true x true y = (eqb-true (length s) (n * 64) x, eqb-true (length r) (m * 8) y)
+  open-fits =
+      let a = passed _ _ _ refl not-refused in
+      let b = passed _ _ _ refl (a .1) in
+      let d = let-on _ _ _ refl (b .1) in
+      let f = let-on _ _ _ refl (d .1) in
+      (inside 1 1048576 n (a .0) .0, inside 1 8388608 m (b .0) .0, eqb-true _ _ (d .0), eqb-true _ _ (f .0))
 
-  -- "Depth N .. is 1 to 1,048,576. Depth M .. is 1 to 8,388,608."
-  pub open-depths : (1 ≤ n) × (1 ≤ m)
-  unfolding openRefusal
-  open-depths = go (outside 1 1048576 n) refl (outside 1 8388608 m) refl
-    where
-      go : (a : Bool) → outside 1 1048576 n ≡ a → (b : Bool) → outside 1 8388608 m ≡ b → (1 ≤ n) × (1 ≤ m)
-      go true p b k = clash (rw p at not-refused)
-      go false p true k = clash (rw (p, k) at not-refused)
-      go false p false k = (inside 1 1048576 n p .0, inside 1 8388608 m k .0)
-
-  abbrev pub world : World
-  world = record { board = state.opened n m; setpoints = s; readbacks = r }
-
-  pub open-world : opening n m s r ≡ world
-  open-world = ap (λ b. record { board = b; setpoints = s; readbacks = r }) opened
+  open-world : opening n m s r ≡ world (state.opened n m) s r
+  open-world = ap (λ (b : Board). world b s r) opened
 
   pub good-opening : Good (opening n m s r)
   unfolding state.opened
-  good-opening = subst Good (sym open-world) (record { four = refl; sets = open-lengths .0; reads = open-lengths .1 })
+  good-opening = subst Good (sym open-world) (record { four = refl; sets = open-fits .2; reads = open-fits .3 })
 
   view-opening : (c : ℕ) → Number c → view c (opening n m s r) ≡ oneChannelAt c n m s r
   unfolding state.opened

@@ -1,4 +1,4 @@
--- One item of a list: the view of each channel after it, and what it hears, are the one-channel definition's on what it is fed. Assumes nothing.
+-- One item of a list: the view of each channel after it, and what it observes, are the one-channel definition's on what it is fed. Assumes nothing.
 use Prim.Native.Nat.{ℕ}
 use mathlib.Core.Path.{_≡_, refl, sym, ap, subst, _∙_}
 use mathlib.Core.Logic.{_⊎_, inl, inr}
@@ -9,18 +9,18 @@ use lib.Dec.{eqb}
 use borrow.Author.Tests.{eqb-true, eqb-false}
 use Rattle.register_map.specs.Addresses.{Named, named, main, channel, nothing}
 use Rattle.channel_core.specs.Answers.{Answer, isRefusal}
-use Rattle.channel.specs.OneChannel.{ChannelCall, transition, response, transitions, responses}
+use Rattle.channel.specs.OneChannel.{ChannelCall, refusalOf, effect, transition, response, transitions, responses}
 use Rattle.channel.specs.OneChannel as to
 use Rattle.board.specs.Answers.{BoardAnswer}
 use Rattle.board.specs.Worlds.{World}
 use Rattle.isolation.specs.Calls.{Call, writeRegister, readRegister, writeSetpoint, arm, disarm, reply, retired, retiredLength, tick, event, changeUser, interruptLevel, Lent, first, second, Item, answer, after, refused, given, step, Fits}
-use Rattle.isolation.specs.Feeding.{only, feeds, said, shared, sharedRead, observe, view}
+use Rattle.isolation.specs.Feeding.{only, feeds, answerFor, shared, sharedRead, observe, view}
 use Rattle.isolation.proofs.Parts.{Number}
 use Rattle.isolation.proofs.One.{still}
 use Rattle.isolation.proofs.Worlds.{Good, either, step-refused, step-given, plain}
-use Rattle.isolation.proofs.Views.{view-write, view-read, view-setpoint, view-arm, view-disarm, view-reply, view-retired, view-retiredLength, view-tick, view-event, view-user, view-write-main, view-read-main}
-use Rattle.isolation.proofs.Others.{other-write, other-read, other-setpoint, other-arm, other-disarm, other-reply, nothing-write, nothing-read}
-use Rattle.isolation.proofs.Observing.{said-refused, shared-refused, sharedRead-refused, observe-write, observe-read, observe-setpoint, observe-arm, observe-disarm, observe-reply, observe-event, observe-user, observe-write-main, observe-read-main, observe-retired, observe-retiredLength, observe-tick}
+use Rattle.isolation.proofs.Views.{view-write, view-read, view-setpoint, view-armed, view-reply, view-retired, view-retiredLength, view-tick, view-event, view-user, view-write-main, view-read-main}
+use Rattle.isolation.proofs.Others.{other-write, other-read, other-setpoint, other-armed, other-reply, nothing-write, nothing-read}
+use Rattle.isolation.proofs.Observing.{answer-refused, shared-refused, sharedRead-refused, observe-write, observe-read, observe-setpoint, arm-done, observe-reply, observe-event, observe-user, observe-write-main, observe-read-main, observe-retired, observe-retiredLength, observe-tick}
 
 abbrev at : Call → Lent → Item
 at x l = record { call = x; lent = l }
@@ -30,12 +30,12 @@ pub record Holds (c : ℕ) (w : World) (i : Item) : Type 0 where
   pub observed : observe c (i .call) (answer (w .board) (i .call) (i .lent)) ≡ responses (view c w) (feeds c i)
 
 module _ (w : World) (c : ℕ) (x : Call) (l : Lent) (f : Fits w (at x l)) where
-  abbrev told : Answer
-  told = said c (answer (w .board) x l)
+  abbrev answered : Answer
+  answered = answerFor c (answer (w .board) x l)
 
   -- fed one call: where it is refused, both stand still
   ours : (k : ChannelCall) (a : Answer) → feeds c (at x l) ≡ k ∷ [] → observe c x (answer (w .board) x l) ≡ a ∷ []
-      → (isRefusal told ≡ true → isRefusal a ≡ true)
+      → (isRefusal answered ≡ true → isRefusal a ≡ true)
       → a ≡ response (view c w) k
       → (l ≡ given w x → view c (plain w x) ≡ transition (view c w) k)
       → Holds c w (at x l)
@@ -48,7 +48,7 @@ module _ (w : World) (c : ℕ) (x : Call) (l : Lent) (f : Fits w (at x l)) where
       go : ((refused (w .board) x l ≡ true) ⊎ (l ≡ given w x)) → view c (step w (at x l)) ≡ transition (view c w) k
       go (inl q) =
           ap (view c) (step-refused w (at x l) q)
-          ∙ sym (still (view c w) k (ap isRefusal (sym s) ∙ r (said-refused c (answer (w .board) x l) q)))
+          ∙ sym (still (view c w) k (ap isRefusal (sym s) ∙ r (answer-refused c (answer (w .board) x l) q)))
       go (inr q) = ap (view c) (step-given w (at x l) q) ∙ v q
 
   -- fed nothing
@@ -62,8 +62,8 @@ module _ (w : World) (c : ℕ) (x : Call) (l : Lent) (f : Fits w (at x l)) where
 
   -- a call that names channel d: this one, or another
   naming : (d : ℕ) (k : ChannelCall) → feeds c (at x l) ≡ only (eqb d c) k
-      → observe c x (answer (w .board) x l) ≡ only (eqb d c) told
-      → (d ≡ c → told ≡ response (view c w) k)
+      → observe c x (answer (w .board) x l) ≡ only (eqb d c) answered
+      → (d ≡ c → answered ≡ response (view c w) k)
       → (d ≡ c → l ≡ given w x → view c (plain w x) ≡ transition (view c w) k)
       → ((c ≡ d → ⊥) → view c (plain w x) ≡ view c w)
       → Holds c w (at x l)
@@ -71,23 +71,23 @@ module _ (w : World) (c : ℕ) (x : Call) (l : Lent) (f : Fits w (at x l)) where
     where
       go : (t : Bool) → eqb d c ≡ t → Holds c w (at x l)
       go true t =
-          ours k told (e ∙ ap (λ (b : Bool). only b k) t) (p ∙ ap (λ (b : Bool). only b told) t) (λ q. q)
+          ours k answered (e ∙ ap (λ (b : Bool). only b k) t) (p ∙ ap (λ (b : Bool). only b answered) t) (λ q. q)
           (s (eqb-true d c t)) (v (eqb-true d c t))
       go false t =
-          theirs (e ∙ ap (λ (b : Bool). only b k) t) (p ∙ ap (λ (b : Bool). only b told) t)
+          theirs (e ∙ ap (λ (b : Bool). only b k) t) (p ∙ ap (λ (b : Bool). only b answered) t)
           (other (λ q. eqb-false d c t (sym q)))
 
 -- a call by a channel's number
 by-number : (w : World) (c : ℕ) (l : Lent) (x : ℕ → Call) (k : ChannelCall)
     → ((d : ℕ) → feeds c (at (x d) l) ≡ only (eqb d c) k)
-    → ((d : ℕ) (s : BoardAnswer) → observe c (x d) s ≡ only (eqb d c) (said c s))
-    → (Fits w (at (x c) l) → said c (answer (w .board) (x c) l) ≡ response (view c w) k)
+    → ((d : ℕ) (s : BoardAnswer) → observe c (x d) s ≡ only (eqb d c) (answerFor c s))
+    → (Fits w (at (x c) l) → answerFor c (answer (w .board) (x c) l) ≡ response (view c w) k)
     → (l ≡ given w (x c) → view c (plain w (x c)) ≡ transition (view c w) k)
     → ((d : ℕ) → (c ≡ d → ⊥) → view c (plain w (x d)) ≡ view c w)
     → (d : ℕ) → Fits w (at (x d) l) → Holds c w (at (x d) l)
 by-number w c l x k e p s v other d f =
     naming w c (x d) l f d k (e d) (p d (answer (w .board) (x d) l))
-    (λ q. subst (λ (d : ℕ). Fits w (at (x d) l) → said c (answer (w .board) (x d) l) ≡ response (view c w) k) (sym q) s f)
+    (λ q. subst (λ (d : ℕ). Fits w (at (x d) l) → answerFor c (answer (w .board) (x d) l) ≡ response (view c w) k) (sym q) s f)
     (λ q. subst (λ (d : ℕ). l ≡ given w (x d) → view c (plain w (x d)) ≡ transition (view c w) k) (sym q) v)
     (other d)
 
@@ -104,8 +104,8 @@ module _ (w : World) (g : Good w) (c : ℕ) (h : Number c) (l : Lent) where
       go : (n : Named) → named a ≡ n → Holds c w (at (writeRegister a v) l)
       go (main o) e =
           ours w c (writeRegister a v) l f (to.writeMain (length (first l)) o v)
-          (shared (said c (answer (w .board) (writeRegister a v) l))) (rw e) (rw e)
-          (shared-refused (said c (answer (w .board) (writeRegister a v) l))) (observe-write-main w c h a o v l e)
+          (shared (answerFor c (answer (w .board) (writeRegister a v) l))) (rw e) (rw e)
+          (shared-refused (answerFor c (answer (w .board) (writeRegister a v) l))) (observe-write-main w c h a o v l e)
           (λ q. view-write-main w g c h a o v e ∙ at-length (λ (k : ℕ). to.writeMain k o v) q)
       go (channel d o) e =
           naming w c (writeRegister a v) l f d (to.writeRegister (length (first l)) o v) (rw e) (rw e)
@@ -119,8 +119,8 @@ module _ (w : World) (g : Good w) (c : ℕ) (h : Number c) (l : Lent) where
     where
       go : (n : Named) → named a ≡ n → Holds c w (at (readRegister a) l)
       go (main o) e =
-          ours w c (readRegister a) l f (to.readMain o) (sharedRead c o (said c (answer (w .board) (readRegister a) l))) (rw e) (rw e)
-          (sharedRead-refused c o (said c (answer (w .board) (readRegister a) l))) (observe-read-main w c h a o l e)
+          ours w c (readRegister a) l f (to.readMain o) (sharedRead c o (answerFor c (answer (w .board) (readRegister a) l))) (rw e) (rw e)
+          (sharedRead-refused c o (answerFor c (answer (w .board) (readRegister a) l))) (observe-read-main w c h a o l e)
           (λ q. view-read-main w g c h a o e)
       go (channel d o) e =
           naming w c (readRegister a) l f d (to.readRegister o) (rw e) (rw e)
@@ -139,14 +139,16 @@ module _ (w : World) (g : Good w) (c : ℕ) (h : Number c) (l : Lent) where
       (λ d ne. other-setpoint w c h d ne u b i y) d
 
   item-arm : (d : ℕ) → Fits w (at (arm d) l) → Holds c w (at (arm d) l)
+  unfolding answer after transition response refusalOf effect to.answer
   item-arm =
-      by-number w c l arm to.arm (λ d. refl) (λ d s. refl) (λ f. observe-arm w c h l) (λ q. view-arm w g c h)
-      (λ d ne. other-arm w c h d ne)
+      by-number w c l arm to.arm (λ d. refl) (λ d s. refl) (λ f. arm-done w c h) (λ q. view-armed w g c h true)
+      (λ d ne. other-armed w c h d ne true)
 
   item-disarm : (d : ℕ) → Fits w (at (disarm d) l) → Holds c w (at (disarm d) l)
+  unfolding answer after transition response refusalOf effect to.answer
   item-disarm =
-      by-number w c l disarm to.disarm (λ d. refl) (λ d s. refl) (λ f. observe-disarm w c h l) (λ q. view-disarm w g c h)
-      (λ d ne. other-disarm w c h d ne)
+      by-number w c l disarm to.disarm (λ d. refl) (λ d s. refl) (λ f. arm-done w c h) (λ q. view-armed w g c h false)
+      (λ d ne. other-armed w c h d ne false)
 
   item-reply : (d y : ℕ) → Fits w (at (reply d y) l) → Holds c w (at (reply d y) l)
   item-reply d y =
@@ -174,19 +176,19 @@ module _ (w : World) (g : Good w) (c : ℕ) (h : Number c) (l : Lent) where
 
   item-tick : Fits w (at tick l) → Holds c w (at tick l)
   item-tick f =
-      ours w c tick l f (to.tick (length (first l))) (said c (answer (w .board) tick l)) refl refl (λ q. q)
+      ours w c tick l f (to.tick (length (first l))) (answerFor c (answer (w .board) tick l)) refl refl (λ q. q)
       (observe-tick w c h g l (either w (at tick l) f)) (λ q. view-tick w g c h ∙ at-length (λ (k : ℕ). to.tick k) q)
 
   item-event : (y : ℕ) → Fits w (at (event y) l) → Holds c w (at (event y) l)
   item-event y f =
-      ours w c (event y) l f (to.event (length (first l)) y) (shared (said c (answer (w .board) (event y) l))) refl refl
-      (shared-refused (said c (answer (w .board) (event y) l))) (observe-event w c h y l)
+      ours w c (event y) l f (to.event (length (first l)) y) (shared (answerFor c (answer (w .board) (event y) l))) refl refl
+      (shared-refused (answerFor c (answer (w .board) (event y) l))) (observe-event w c h y l)
       (λ q. view-event w g c h y ∙ at-length (λ (k : ℕ). to.event k y) q)
 
   item-user : (u : ℕ) → Fits w (at (changeUser u) l) → Holds c w (at (changeUser u) l)
   item-user u f =
-      ours w c (changeUser u) l f (to.changeUser u) (shared (said c (answer (w .board) (changeUser u) l))) refl refl
-      (shared-refused (said c (answer (w .board) (changeUser u) l))) (observe-user w c h u l)
+      ours w c (changeUser u) l f (to.changeUser u) (shared (answerFor c (answer (w .board) (changeUser u) l))) refl refl
+      (shared-refused (answerFor c (answer (w .board) (changeUser u) l))) (observe-user w c h u l)
       (λ q. view-user w g c h u)
 
   item-level : Fits w (at interruptLevel l) → Holds c w (at interruptLevel l)

@@ -1,8 +1,9 @@
--- What a channel hears of a call's answer is what the one-channel definition says. Assumes nothing.
+-- What a channel observes of a call's answer is what the one-channel definition answers. Assumes nothing.
 use Prim.Native.Nat.{ℕ}
 use mathlib.Core.Path.{_≡_, refl, sym, ap, subst, _∙_}
 use mathlib.Core.Logic.{_⊎_, inl, inr}
 use mathlib.Core.Bool.{Bool, true, false, cond}
+use mathlib.Core.List.{List}
 use lib.ListN.{length}
 use lib.Dec.{eqb}
 use borrow.Author.Tests.{eqb-true}
@@ -15,26 +16,27 @@ use Rattle.channel.specs.Calls.{unless}
 use Rattle.channel.specs.Calls as chn
 use Rattle.channel.specs.OneChannel.{response, refusalOf, answer, retiredOf, userRefusal, mainAnswer}
 use Rattle.channel.specs.OneChannel as to
+use Rattle.channel.proofs.Cases.{clash, either}
 use Rattle.board_state.specs.State.{channelAt}
 use Rattle.board_state.specs.Main.{mainValue}
 use Rattle.board.specs.Answers.{BoardAnswer, one, each, refuses}
 use Rattle.board.specs.Calls.{sizeMismatch, setpointsFit, readbacksFit, tickFrame}
 use Rattle.board.specs.Calls as calls
 use Rattle.board.specs.Worlds.{World}
-use Rattle.isolation.specs.Calls.{writeRegister, readRegister, writeSetpoint, arm, disarm, reply, retired, retiredLength, tick, event, changeUser, Lent, first, second, refused, given}
+use Rattle.isolation.specs.Calls.{writeRegister, readRegister, writeSetpoint, reply, retired, retiredLength, tick, event, changeUser, Lent, first, second, refused, ownBuffers, given}
 use Rattle.isolation.specs.Calls as wld
-use Rattle.isolation.specs.Feeding.{said, shared, sharedRead, view}
+use Rattle.isolation.specs.Feeding.{answerFor, shared, sharedRead, view}
 use Rattle.isolation.proofs.Parts.{Number}
-use Rattle.isolation.proofs.Cases.{clash, of-four, in-range}
+use Rattle.isolation.proofs.Cases.{of-four, in-range}
 use Rattle.isolation.proofs.One.{response-write, response-setpoint, response-reply, response-main, response-event, response-tick}
 use Rattle.isolation.proofs.Worlds.{Good, full-sets}
 use Rattle.isolation.proofs.Mains.{status-bit}
 
--- ---- A refusal is heard as a refusal
+-- ---- A refusal is observed as a refusal
 
-pub said-refused : (c : ℕ) (s : BoardAnswer) → refuses s ≡ true → isRefusal (said c s) ≡ true
-said-refused c (one a) h = h
-said-refused c (each f g i k) h = clash h
+pub answer-refused : (c : ℕ) (s : BoardAnswer) → refuses s ≡ true → isRefusal (answerFor c s) ≡ true
+answer-refused c (one a) h = h
+answer-refused c (each f g i k) h = clash h
 
 pub shared-refused : (a : Answer) → isRefusal a ≡ true → isRefusal (shared a) ≡ true
 shared-refused a h = rw h h
@@ -42,62 +44,54 @@ shared-refused a h = rw h h
 pub sharedRead-refused : (c o : ℕ) (a : Answer) → isRefusal a ≡ true → isRefusal (sharedRead c o a) ≡ true
 sharedRead-refused c o a h = rw h h
 
--- where there is nothing but a refusal's number to compare, all is heard
+-- where there is nothing but a refusal's number to compare, all is observed
 shared-done : (k : ℕ) → shared (unless k ans.done) ≡ unless k ans.done
-shared-done k = go (eqb k 0)
-  where
-    go : (t : Bool) → shared (cond t ans.done (ans.refused k)) ≡ cond t ans.done (ans.refused k)
-    go true = refl
-    go false = refl
+shared-done k = either (λ (a : Answer). shared a ≡ a) (eqb k 0) refl refl
 
 shared-fit : (t : Bool) (a : Answer) → shared a ≡ a → shared (cond t a sizeMismatch) ≡ cond t a sizeMismatch
-shared-fit true a e = e
-shared-fit false a e = refl
+shared-fit t a e = either (λ (x : Answer). shared x ≡ x) t e refl
 
 module _ (w : World) (c : ℕ) (h : Number c) where
   -- ---- Calls that name the channel, whatever they are lent
 
   pub observe-write : (a o v : ℕ) (l : Lent) → named a ≡ channel c o
-      → said c (wld.answer (w .board) (writeRegister a v) l) ≡ response (view c w) (to.writeRegister (length (first l)) o v)
+      → answerFor c (wld.answer (w .board) (writeRegister a v) l) ≡ response (view c w) (to.writeRegister (length (first l)) o v)
   unfolding wld.answer calls.writeAnswer
   observe-write a o v l e = rw e (sym (response-write (view c w) (length (first l)) o v))
 
   pub observe-read : (a o : ℕ) (l : Lent) → named a ≡ channel c o
-      → said c (wld.answer (w .board) (readRegister a) l) ≡ response (view c w) (to.readRegister o)
+      → answerFor c (wld.answer (w .board) (readRegister a) l) ≡ response (view c w) (to.readRegister o)
   unfolding wld.answer calls.readAnswer chn.readAnswer response refusalOf answer
   observe-read a o l e = rw e
 
   pub observe-setpoint : (u f i x : ℕ) (l : Lent)
-      → said c (wld.answer (w .board) (writeSetpoint c u f i x) l) ≡ response (view c w) (to.writeSetpoint (length (first l)) u f i x)
+      → answerFor c (wld.answer (w .board) (writeSetpoint c u f i x) l) ≡ response (view c w) (to.writeSetpoint (length (first l)) u f i x)
   unfolding wld.answer calls.setpointAnswer
   observe-setpoint u f i x l = rw (in-range c h) (sym (response-setpoint (view c w) (length (first l)) u f i x))
 
-  pub observe-arm : (l : Lent) → said c (wld.answer (w .board) (arm c) l) ≡ response (view c w) to.arm
-  unfolding wld.answer calls.armAnswer response refusalOf answer
-  observe-arm l = rw (in-range c h)
+  -- arm and disarm
+  pub arm-done : calls.armAnswer c ≡ ans.done
+  unfolding calls.armAnswer
+  arm-done = rw (in-range c h)
 
-  pub observe-disarm : (l : Lent) → said c (wld.answer (w .board) (disarm c) l) ≡ response (view c w) to.disarm
-  unfolding wld.answer calls.armAnswer response refusalOf answer
-  observe-disarm l = rw (in-range c h)
-
-  pub observe-reply : (f : ℕ) (l : Lent) → said c (wld.answer (w .board) (reply c f) l) ≡ response (view c w) (to.reply (length (first l)) f)
+  pub observe-reply : (f : ℕ) (l : Lent) → answerFor c (wld.answer (w .board) (reply c f) l) ≡ response (view c w) (to.reply (length (first l)) f)
   unfolding wld.answer calls.replyAnswer
   observe-reply f l = rw (in-range c h) (sym (response-reply (view c w) (length (first l)) f))
 
   -- ---- Shared calls, whatever they are lent
 
   pub observe-event : (x : ℕ) (l : Lent)
-      → shared (said c (wld.answer (w .board) (event x) l)) ≡ response (view c w) (to.event (length (first l)) x)
+      → shared (answerFor c (wld.answer (w .board) (event x) l)) ≡ response (view c w) (to.event (length (first l)) x)
   unfolding wld.answer calls.eventAnswer
   observe-event x l =
       shared-fit (readbacksFit (w .board) (length (first l))) ans.done refl ∙ sym (response-event (view c w) (length (first l)) x)
 
-  pub observe-user : (u : ℕ) (l : Lent) → shared (said c (wld.answer (w .board) (changeUser u) l)) ≡ response (view c w) (to.changeUser u)
+  pub observe-user : (u : ℕ) (l : Lent) → shared (answerFor c (wld.answer (w .board) (changeUser u) l)) ≡ response (view c w) (to.changeUser u)
   unfolding wld.answer calls.userAnswer response refusalOf answer
   observe-user u l = shared-done (userRefusal u)
 
   pub observe-write-main : (a o v : ℕ) (l : Lent) → named a ≡ main o
-      → shared (said c (wld.answer (w .board) (writeRegister a v) l)) ≡ response (view c w) (to.writeMain (length (first l)) o v)
+      → shared (answerFor c (wld.answer (w .board) (writeRegister a v) l)) ≡ response (view c w) (to.writeMain (length (first l)) o v)
   unfolding wld.answer calls.writeAnswer
   observe-write-main a o v l e =
       rw e
@@ -117,7 +111,7 @@ module _ (w : World) (c : ℕ) (h : Number c) where
       go false e false r = rw (e, r)
 
   pub observe-read-main : (a o : ℕ) (l : Lent) → named a ≡ main o
-      → sharedRead c o (said c (wld.answer (w .board) (readRegister a) l)) ≡ response (view c w) (to.readMain o)
+      → sharedRead c o (answerFor c (wld.answer (w .board) (readRegister a) l)) ≡ response (view c w) (to.readMain o)
   unfolding wld.answer calls.readAnswer response refusalOf answer
   observe-read-main a o l e = rw e (go (eqb (readRefusal (mainAccess o)) 0))
     where
@@ -129,43 +123,47 @@ module _ (w : World) (c : ℕ) (h : Number c) where
 
   -- ---- Calls whose answer goes by the words that they are lent: refused, or lent the memory as left
 
-  pub observe-retired : (l : Lent) → ((refused (w .board) (retired c) l ≡ true) ⊎ (l ≡ given w (retired c)))
-      → said c (wld.answer (w .board) (retired c) l) ≡ response (view c w) (to.retired (length (first l)) (length (second l)))
-  unfolding wld.answer calls.retiredAnswer calls.retiredWords chn.retiredWords response refusalOf answer retiredOf
-  observe-retired l f = go (eqb (chn.retiredRefusal (w .board .m) (length (first l)) (length (second l))) 0) refl f
+  -- the answer of the retired call or of its twin, which is of the part what `tell` tells: on the board, and by the one-channel definition
+  abbrev onBoard : (List ℕ → Answer) → Lent → Answer
+  onBoard tell l =
+      unless (calls.retiredRefusal (w .board) c (length (first l)) (length (second l))) (tell (calls.retiredWords (w .board) c (first l) (second l)))
+
+  abbrev byItself : (List ℕ → Answer) → Lent → Answer
+  byItself tell l = unless (chn.retiredRefusal (w .board .m) (length (first l)) (length (second l))) (tell (retiredOf (view c w)))
+
+  retired-same : (tell : List ℕ → Answer) → ((s : List ℕ) → isRefusal (tell s) ≡ false) → (l : Lent)
+      → ((isRefusal (onBoard tell l) ≡ true) ⊎ (l ≡ ownBuffers w c)) → onBoard tell l ≡ byItself tell l
+  unfolding calls.retiredWords chn.retiredWords retiredOf
+  retired-same tell plain l f = go (eqb (chn.retiredRefusal (w .board .m) (length (first l)) (length (second l))) 0) refl f
     where
       go : (t : Bool) → eqb (chn.retiredRefusal (w .board .m) (length (first l)) (length (second l))) 0 ≡ t
-          → ((refused (w .board) (retired c) l ≡ true) ⊎ (l ≡ given w (retired c)))
-          → said c (wld.answer (w .board) (retired c) l) ≡ response (view c w) (to.retired (length (first l)) (length (second l)))
-      go true e (inl r) = clash (rw (e, in-range c h) at r)
+          → ((isRefusal (onBoard tell l) ≡ true) ⊎ (l ≡ ownBuffers w c)) → onBoard tell l ≡ byItself tell l
+      go true e (inl r) = clash (sym (plain _) ∙ (rw (e, in-range c h) at r))
       go true e (inr q) = rw (e, in-range c h, q)
       go false e f = rw e (rw e)
+
+  pub observe-retired : (l : Lent) → ((refused (w .board) (retired c) l ≡ true) ⊎ (l ≡ given w (retired c)))
+      → answerFor c (wld.answer (w .board) (retired c) l) ≡ response (view c w) (to.retired (length (first l)) (length (second l)))
+  unfolding wld.answer calls.retiredAnswer response refusalOf answer
+  observe-retired l f = retired-same ans.part (λ s. refl) l f
 
   pub observe-retiredLength : (l : Lent) → ((refused (w .board) (retiredLength c) l ≡ true) ⊎ (l ≡ given w (retiredLength c)))
-      → said c (wld.answer (w .board) (retiredLength c) l)
+      → answerFor c (wld.answer (w .board) (retiredLength c) l)
       ≡ response (view c w) (to.retiredLength (length (first l)) (length (second l)))
-  unfolding wld.answer calls.retiredLength calls.retiredWords chn.retiredWords response refusalOf answer retiredOf
-  observe-retiredLength l f = go (eqb (chn.retiredRefusal (w .board .m) (length (first l)) (length (second l))) 0) refl f
-    where
-      go : (t : Bool) → eqb (chn.retiredRefusal (w .board .m) (length (first l)) (length (second l))) 0 ≡ t
-          → ((refused (w .board) (retiredLength c) l ≡ true) ⊎ (l ≡ given w (retiredLength c)))
-          → said c (wld.answer (w .board) (retiredLength c) l)
-          ≡ response (view c w) (to.retiredLength (length (first l)) (length (second l)))
-      go true e (inl r) = clash (rw (e, in-range c h) at r)
-      go true e (inr q) = rw (e, in-range c h, q)
-      go false e f = rw e (rw e)
+  unfolding wld.answer calls.retiredLength response refusalOf answer
+  observe-retiredLength l f = retired-same (λ s. ans.partLength (length s)) (λ s. refl) l f
 
   pub observe-tick : Good w → (l : Lent) → ((refused (w .board) tick l ≡ true) ⊎ (l ≡ given w tick))
-      → said c (wld.answer (w .board) tick l) ≡ response (view c w) (to.tick (length (first l)))
+      → answerFor c (wld.answer (w .board) tick l) ≡ response (view c w) (to.tick (length (first l)))
   unfolding wld.answer calls.tickBoardAnswer tickFrame
   observe-tick g l (inl r) = go (setpointsFit (w .board) (length (first l))) refl
     where
       go : (t : Bool) → setpointsFit (w .board) (length (first l)) ≡ t
-          → said c (wld.answer (w .board) tick l) ≡ response (view c w) (to.tick (length (first l)))
+          → answerFor c (wld.answer (w .board) tick l) ≡ response (view c w) (to.tick (length (first l)))
       go true e = clash (rw e at r)
       go false e = rw e (sym (response-tick (view c w) (length (first l)) ∙ rw e))
   observe-tick g l (inr q) =
-      subst (λ (l : Lent). said c (wld.answer (w .board) tick l) ≡ response (view c w) (to.tick (length (first l)))) (sym q)
+      subst (λ (l : Lent). answerFor c (wld.answer (w .board) tick l) ≡ response (view c w) (to.tick (length (first l)))) (sym q)
       (rw (full-sets w g)
       (of-four (λ (j : ℕ). tickFrame (w .board) (w .setpoints) j) c h
       ∙ sym (response-tick (view c w) (length (w .setpoints)) ∙ rw (full-sets w g))))

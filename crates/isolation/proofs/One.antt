@@ -1,4 +1,4 @@
--- The one-channel definition, said by the channel's own calls: what each call does to it and answers; refused, it stands still. Assumes nothing.
+-- The one-channel definition by the channel's own calls: what each call does to it and answers; refused, it stands still. Assumes nothing.
 use Prim.Native.Nat.{ℕ, _*_}
 use mathlib.Core.Path.{_≡_, refl, sym, ap, ap₂, _∙_}
 use mathlib.Core.Bool.{Bool, true, false, cond}
@@ -20,9 +20,13 @@ use Rattle.channel.specs.Calls.{unless, registerRefusal, setpointRefusal}
 use Rattle.channel.specs.Calls as chn
 use Rattle.channel.specs.OneChannel.{OneChannel, ChannelCall, withChannel, withSetpoints, withReadbacks, refusalOf, effect, answer, transition, response, transitions, responses, then, lengthRefusal, framingRefusal, mainAnswer}
 use Rattle.channel.specs.OneChannel as to
+use Rattle.channel.proofs.Cases.{clash, either}
 use Rattle.board.specs.Calls.{sizeMismatch}
-use Rattle.isolation.proofs.Cases.{clash, cond-case}
 use Rattle.isolation.proofs.Refused.{reply-still, reply-words}
+
+-- the channel and its readbacks changed
+abbrev pub withBoth : OneChannel → Channel → List ℕ → OneChannel
+withBoth o c s = withReadbacks (withChannel o c) s
 
 -- ---- Refused, it stands still
 
@@ -32,8 +36,8 @@ frame-none r (transmission.Word word k) = refl
 
 main-none : (c : Channel) (o : ℕ) → isRefusal (mainAnswer c o) ≡ false
 main-none c o =
-    cond-case (λ (a : Answer). isRefusal a ≡ false) (eqb o 0x28) (λ t. refl)
-    (λ t. cond-case (λ (a : Answer). isRefusal a ≡ false) (eqb o 0x2a) (λ q. refl) (λ q. refl))
+    either (λ (a : Answer). isRefusal a ≡ false) (eqb o 0x28) refl
+    (either (λ (a : Answer). isRefusal a ≡ false) (eqb o 0x2a) refl refl)
 
 module _ (o : OneChannel) where
   -- no refusal but in `refusalOf`; a reply's stands in the answer too, and there it changes nothing
@@ -45,7 +49,7 @@ module _ (o : OneChannel) where
   effect-still to.arm h = clash h
   effect-still to.disarm h = clash h
   effect-still (to.reply lent f) h =
-      ap₂ (withReadbacks o) (reply-still (o .channel) (o .m) f h) (reply-words (o .channel) (o .readbacks) (o .m) (o .user) f h)
+      ap₂ (withBoth o) (reply-still (o .channel) (o .m) f h) (reply-words (o .channel) (o .readbacks) (o .m) (o .user) f h)
   effect-still (to.retired k j) h = refl
   effect-still (to.retiredLength k j) h = refl
   effect-still (to.tick lent) h =
@@ -68,33 +72,33 @@ module _ (o : OneChannel) where
   module _ (k : ℕ) (fit : eqb k (o .m * 8) ≡ true) where
     pub transition-write : (x v : ℕ)
         → transition o (to.writeRegister k x v)
-        ≡ withReadbacks o (chn.writtenOf (o .channel) x v) (chn.writtenWords (o .channel) (o .readbacks) (o .m) x v)
+        ≡ withBoth o (chn.writtenOf (o .channel) x v) (chn.writtenWords (o .channel) (o .readbacks) (o .m) x v)
     unfolding transition refusalOf effect chn.writtenOf chn.writtenWords
     transition-write x v = rw fit (go (eqb (registerRefusal x v) 0))
       where
         go : (t : Bool)
-            → cond t (withReadbacks o (chn.registerEffect (o .channel) x v) (chn.registerWords (o .channel) (o .readbacks) (o .m) x v)) o
-            ≡ withReadbacks o (cond t (chn.registerEffect (o .channel) x v) (o .channel))
+            → cond t (withBoth o (chn.registerEffect (o .channel) x v) (chn.registerWords (o .channel) (o .readbacks) (o .m) x v)) o
+            ≡ withBoth o (cond t (chn.registerEffect (o .channel) x v) (o .channel))
             (cond t (chn.registerWords (o .channel) (o .readbacks) (o .m) x v) (o .readbacks))
         go true = refl
         go false = refl
 
     pub transition-reply : (f : ℕ)
         → transition o (to.reply k f)
-        ≡ withReadbacks o (core.replyOf (o .channel) (o .m) f) (core.replyWords (o .channel) (o .readbacks) (o .m) (o .user) f)
+        ≡ withBoth o (core.replyOf (o .channel) (o .m) f) (core.replyWords (o .channel) (o .readbacks) (o .m) (o .user) f)
     unfolding transition refusalOf effect core.replyOf core.replyWords
     transition-reply f = rw fit (go (read f))
       where
         go : (r : Reading)
             → cond (eqb (framingRefusal r) 0)
-            (withReadbacks o (replyAs r (o .channel) (o .m)) (replyWordsAs r (o .channel) (o .readbacks) (o .m) (o .user))) o
-            ≡ withReadbacks o (replyAs r (o .channel) (o .m)) (replyWordsAs r (o .channel) (o .readbacks) (o .m) (o .user))
-        go (frame.refused k) = cond-case (λ (a : OneChannel). a ≡ o) (eqb k 0) (λ t. refl) (λ t. refl)
+            (withBoth o (replyAs r (o .channel) (o .m)) (replyWordsAs r (o .channel) (o .readbacks) (o .m) (o .user))) o
+            ≡ withBoth o (replyAs r (o .channel) (o .m)) (replyWordsAs r (o .channel) (o .readbacks) (o .m) (o .user))
+        go (frame.refused k) = either (λ (a : OneChannel). a ≡ o) (eqb k 0) refl refl
         go (frame.fields id word aux crc) = refl
 
     pub transition-event : (x : ℕ)
         → transition o (to.event k x)
-        ≡ withReadbacks o (core.eventOf (o .channel) (o .user) x) (core.eventWords (o .channel) (o .readbacks) (o .m) x)
+        ≡ withBoth o (core.eventOf (o .channel) (o .user) x) (core.eventWords (o .channel) (o .readbacks) (o .m) x)
     unfolding transition refusalOf effect
     transition-event x = rw fit
 
@@ -127,13 +131,13 @@ module _ (o : OneChannel) where
   pub transition-main : (k x v : ℕ) → transition o (to.writeMain k x v) ≡ o
   unfolding transition effect
   transition-main k x v =
-      cond-case (λ (a : OneChannel). a ≡ o) (eqb (refusalOf o (to.writeMain k x v)) 0) (λ t. refl) (λ t. refl)
+      either (λ (a : OneChannel). a ≡ o) (eqb (refusalOf o (to.writeMain k x v)) 0) refl refl
 
   pub transition-retired : (k j : ℕ) → (transition o (to.retired k j) ≡ o) × (transition o (to.retiredLength k j) ≡ o)
   unfolding transition effect
   transition-retired k j = (
-    cond-case (λ (a : OneChannel). a ≡ o) (eqb (refusalOf o (to.retired k j)) 0) (λ t. refl) (λ t. refl),
-    cond-case (λ (a : OneChannel). a ≡ o) (eqb (refusalOf o (to.retiredLength k j)) 0) (λ t. refl) (λ t. refl),
+    either (λ (a : OneChannel). a ≡ o) (eqb (refusalOf o (to.retired k j)) 0) refl refl,
+    either (λ (a : OneChannel). a ≡ o) (eqb (refusalOf o (to.retiredLength k j)) 0) refl refl,
   )
 
   -- ---- What it answers
@@ -165,7 +169,7 @@ module _ (o : OneChannel) where
       ∙ ap (λ (a : Answer). cond (eqb k (o .m * 8)) a sizeMismatch) (go (read f))
     where
       go : (r : Reading) → unless (framingRefusal r) (replyAnswerAs r (o .channel) (o .m)) ≡ replyAnswerAs r (o .channel) (o .m)
-      go (frame.refused k) = cond-case (λ (a : Answer). a ≡ ans.refused k) (eqb k 0) (λ t. refl) (λ t. refl)
+      go (frame.refused k) = either (λ (a : Answer). a ≡ ans.refused k) (eqb k 0) refl refl
       go (frame.fields id word aux crc) = refl
 
   pub response-main : (k x v : ℕ)
@@ -192,42 +196,6 @@ module _ (o : OneChannel) where
           ≡ cond t (core.tickAnswer (o .channel) (o .setpoints) (o .n) (o .user)) sizeMismatch
       go true = refl
       go false = refl
-
--- ---- The depths stay
-
-pub record Depths (o p : OneChannel) : Type 0 where
-  pub n : p .n ≡ o .n
-  pub m : p .m ≡ o .m
-
-module _ (o : OneChannel) where
-  effect-depths : (k : ChannelCall) → Depths o (effect o k)
-  unfolding effect
-  effect-depths (to.writeRegister lent x v) = record { n = refl; m = refl }
-  effect-depths (to.readRegister x) = record { n = refl; m = refl }
-  effect-depths (to.writeSetpoint lent u f i x) = record { n = refl; m = refl }
-  effect-depths to.arm = record { n = refl; m = refl }
-  effect-depths to.disarm = record { n = refl; m = refl }
-  effect-depths (to.reply lent f) = record { n = refl; m = refl }
-  effect-depths (to.retired k j) = record { n = refl; m = refl }
-  effect-depths (to.retiredLength k j) = record { n = refl; m = refl }
-  effect-depths (to.tick lent) = record { n = refl; m = refl }
-  effect-depths (to.event lent x) = record { n = refl; m = refl }
-  effect-depths (to.changeUser u) =
-      cond-case (Depths o) (eqb u (o .user)) (λ t. record { n = refl; m = refl }) (λ t. record { n = refl; m = refl })
-  effect-depths (to.writeMain lent x v) = record { n = refl; m = refl }
-  effect-depths (to.readMain x) = record { n = refl; m = refl }
-
-  transition-depths : (k : ChannelCall) → Depths o (transition o k)
-  unfolding transition
-  transition-depths k =
-      cond-case (Depths o) (eqb (refusalOf o k) 0) (λ t. effect-depths k) (λ t. record { n = refl; m = refl })
-
-pub depths : (o : OneChannel) (ks : List ChannelCall) → Depths o (transitions o ks)
-depths o [] = record { n = refl; m = refl }
-depths o (k ∷ ks) =
-    let s : Depths o (transition o k) = transition-depths o k in
-    let r : Depths (transition o k) (transitions (transition o k) ks) = depths (transition o k) ks in
-    record { n = r .n ∙ s .n; m = r .m ∙ s .m }
 
 -- ---- Along two lists
 

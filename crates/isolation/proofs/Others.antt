@@ -11,11 +11,13 @@ use borrow.Author.Tests.{eqb-true, eq-eqb, ne-eqb}
 use Rattle.register_map.specs.Addresses.{Named, named, main, channel, nothing}
 use Rattle.channel_core.specs.Behaviour as core
 use Rattle.channel.specs.Calls as chn
-use Rattle.channel.specs.OneChannel.{withChannel, withSetpoints, withReadbacks}
+use Rattle.channel.specs.OneChannel.{withChannel, withSetpoints}
 use Rattle.channel.specs.OneChannel as to
+use Rattle.channel.proofs.Cases.{clash, by-test}
+use Rattle.histories.proofs.Lengths.{written-length, setpoint-length, reply-length}
 use Rattle.board_state.specs.declared.Board.{Board}
 use Rattle.board_state.specs.State.{channelAt}
-use Rattle.board.specs.Parts.{own}
+use Rattle.board_state.specs.Parts.{own}
 use Rattle.board.specs.Calls.{noChannel, readbacksFit, writeBoardAt, readBoardAt}
 use Rattle.board.specs.Calls as calls
 use Rattle.board.specs.Worlds.{World}
@@ -24,8 +26,9 @@ use Rattle.isolation.specs.Calls as wld
 use Rattle.isolation.specs.Feeding.{only, namesAt, names, feedWrite, feedRead, feed, view}
 use Rattle.isolation.specs.Isolation.{UnfedUntouched, OthersUntouched}
 use Rattle.isolation.proofs.Parts.{Number}
-use Rattle.isolation.proofs.Cases.{clash, cond-case, withChannelAt-other, range-in, named-number}
-use Rattle.isolation.proofs.Words.{over-theirs, setpoints-over, replies-over, writes-over, written-length, setpoint-length, reply-length}
+use Rattle.isolation.proofs.Cases.{withChannelAt-other, range-in, named-number}
+use Rattle.isolation.proofs.One.{withBoth}
+use Rattle.isolation.proofs.Words.{over-theirs, setpoints-over, replies-over, writes-over}
 use Rattle.isolation.proofs.Worlds.{either, step-refused, step-given, plain, parted-sets, parted-reads}
 
 module _ (w : World) (c : ℕ) (h : Number c) (d : ℕ) (ne : c ≡ d → ⊥) where
@@ -33,12 +36,12 @@ module _ (w : World) (c : ℕ) (h : Number c) (d : ℕ) (ne : c ≡ d → ⊥) w
   unfolding after wordsAfter calls.writeBoard
   other-write a o v e =
       ap (λ (n : Named). view c (wrote (cond (readbacksFit (w .board) (length (w .readbacks))) (writeBoardAt n (w .board) v) (w .board)))) e
-      ∙ cond-case (λ (b : Board). view c (wrote b) ≡ view c w) (readbacksFit (w .board) (length (w .readbacks)))
-      (λ t. ap₂ (withReadbacks (view c w)) (withChannelAt-other (w .board) d c _ (named-number a d o e) h ne) words)
-      (λ t. ap (withReadbacks (view c w) (channelAt (w .board) c)) words)
+      ∙ by-test (λ (b : Board). view c (wrote b) ≡ view c w) (readbacksFit (w .board) (length (w .readbacks)))
+      (λ t. ap₂ (withBoth (view c w)) (withChannelAt-other (w .board) d c _ (named-number a d o e) h ne) words)
+      (λ t. ap (to.withReadbacks (view c w)) words)
     where
       wrote : Board → World
-      wrote b = wld.withReadbacks w b (calls.writeWords (w .board) (w .readbacks) a v)
+      wrote b = wld.withReadbacks (withBoard w b) (calls.writeWords (w .board) (w .readbacks) a v)
 
       words : own (calls.writeWords (w .board) (w .readbacks) a v) (w .board .m * 2) c ≡ own (w .readbacks) (w .board .m * 2) c
       words =
@@ -62,28 +65,22 @@ module _ (w : World) (c : ℕ) (h : Number c) (d : ℕ) (ne : c ≡ d → ⊥) w
       (λ (p : List ℕ). chn.setpointWords (channelAt (w .board) d) p (w .board .n) u f i x) (parted-sets (w .board))
       (λ p. setpoint-length (channelAt (w .board) d) p (w .board .n) u f i x) c h ne)
 
-  pub other-arm : view c (plain w (arm d)) ≡ view c w
-  unfolding after calls.armBoard
-  other-arm =
-      cond-case (λ (b : Board). view c (withBoard w b) ≡ view c w) (noChannel d) (λ t. refl)
-      (λ t. ap (withChannel (view c w)) (withChannelAt-other (w .board) d c _ (range-in d t) h ne))
-
-  pub other-disarm : view c (plain w (disarm d)) ≡ view c w
-  unfolding after calls.disarmBoard
-  other-disarm =
-      cond-case (λ (b : Board). view c (withBoard w b) ≡ view c w) (noChannel d) (λ t. refl)
+  pub other-armed : (on : Bool) → view c (withBoard w (calls.setArmed (w .board) d on)) ≡ view c w
+  unfolding calls.setArmed
+  other-armed on =
+      by-test (λ (b : Board). view c (withBoard w b) ≡ view c w) (noChannel d) (λ t. refl)
       (λ t. ap (withChannel (view c w)) (withChannelAt-other (w .board) d c _ (range-in d t) h ne))
 
   pub other-reply : (f : ℕ) → view c (plain w (reply d f)) ≡ view c w
   unfolding after wordsAfter calls.replyBoard
   other-reply f =
-      cond-case Stays (readbacksFit (w .board) (length (w .readbacks)))
-      (λ t. cond-case Stays (noChannel d) (λ q. ap (withReadbacks (view c w) (channelAt (w .board) c)) words)
-      (λ q. ap₂ (withReadbacks (view c w)) (withChannelAt-other (w .board) d c _ (range-in d q) h ne) words))
-      (λ t. ap (withReadbacks (view c w) (channelAt (w .board) c)) words)
+      by-test Stays (readbacksFit (w .board) (length (w .readbacks)))
+      (λ t. by-test Stays (noChannel d) (λ q. ap (to.withReadbacks (view c w)) words)
+      (λ q. ap₂ (withBoth (view c w)) (withChannelAt-other (w .board) d c _ (range-in d q) h ne) words))
+      (λ t. ap (to.withReadbacks (view c w)) words)
     where
       Stays : Board → Type 0
-      Stays b = view c (wld.withReadbacks w b (calls.replyWords (w .board) (w .readbacks) d f)) ≡ view c w
+      Stays b = view c (wld.withReadbacks (withBoard w b) (calls.replyWords (w .board) (w .readbacks) d f)) ≡ view c w
 
       words : own (calls.replyWords (w .board) (w .readbacks) d f) (w .board .m * 2) c ≡ own (w .readbacks) (w .board .m * 2) c
       words =
@@ -99,7 +96,7 @@ module _ (w : World) (c : ℕ) where
   nothing-write a v e = rw e (go (readbacksFit (w .board) (length (w .readbacks))))
     where
       go : (t : Bool)
-          → view c (wld.withReadbacks w (cond t (w .board) (w .board)) (cond t (w .readbacks) (w .readbacks))) ≡ view c w
+          → view c (wld.withReadbacks (withBoard w (cond t (w .board) (w .board))) (cond t (w .readbacks) (w .readbacks))) ≡ view c w
       go true = refl
       go false = refl
 
@@ -162,8 +159,8 @@ module _ (w : World) (c : ℕ) (h : Number c) (k j : ℕ) where
       go nothing e = nothing-read w c a e
   unfed (writeSetpoint d u f i x) t =
       other-setpoint w c h d (fed-none d c (to.writeSetpoint k u f i x) t) u f i x
-  unfed (arm d) t = other-arm w c h d (fed-none d c to.arm t)
-  unfed (disarm d) t = other-disarm w c h d (fed-none d c to.disarm t)
+  unfed (arm d) t = other-armed w c h d (fed-none d c to.arm t) true
+  unfed (disarm d) t = other-armed w c h d (fed-none d c to.disarm t) false
   unfed (reply d f) t = other-reply w c h d (fed-none d c (to.reply k f) t) f
   unfed (retired d) t = refl
   unfed (retiredLength d) t = refl

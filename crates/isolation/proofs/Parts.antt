@@ -10,7 +10,8 @@ use lib.ListN.{length, take, drop, getD, length-take, length-drop, length-append
 use lib.Dec.{ltb}
 use lib.Seq.{take-at, drop-at, getD-append-add, getD-take, getD-drop, ext-getD, length-take-le}
 use borrow.Author.Tests.{ltb-true, ltb-false}
-use Rattle.board.specs.Parts.{part, splice, own, withOwn}
+use Rattle.board_state.specs.Parts.{part, splice, own, withOwn}
+use Rattle.board_state.proofs.Parts.{part-within}
 
 part-length : {A : Type 0} (s : List A) (a k : ℕ) → a + k ≤ length s → length (part s a k) ≡ k
 part-length s a k h = simp (length-take, length-drop) (omega arith)
@@ -79,12 +80,9 @@ beside c d k ne = go (ltb c d) refl
     go true e = inl (step c d (ltb-true c d e))
     go false e = inr (step d c (let l : d ≤ c = ltb-false c d e in omega (arith, l, ne)))
 
-within : (j k : ℕ) → j < 4 → j * k + k ≤ 4 * k
-within j k h = rw (suc-mul j k) at (mul-le-mul-right k h)
-
 module _ (s : List ℕ) (k : ℕ) (whole : length s ≡ 4 * k) where
   room : (c : ℕ) → Number c → (c - 1) * k + k ≤ length s
-  room c h = omega (arith, within (c - 1) k (omega arith))
+  room c h = omega (arith, part-within c k (h .high) refl)
 
   pub own-length : (c : ℕ) → Number c → length (own s k c) ≡ k
   own-length c h = part-length s ((c - 1) * k) k (room c h)

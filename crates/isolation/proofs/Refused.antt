@@ -1,7 +1,7 @@
 -- A refused call changes no state and no lent word, on any board and lent anything. Assumes nothing.
 use Prim.Native.Nat.{ℕ}
 use mathlib.Core.Path.{_≡_, refl, sym, ap, _∙_}
-use mathlib.Core.Bool.{Bool, true, false, cond}
+use mathlib.Core.Bool.{Bool, true, false}
 use mathlib.Core.List.{List}
 use lib.ListN.{length}
 use Rattle.frame.specs.Frames.{Reading, read}
@@ -12,23 +12,24 @@ use Rattle.register_map.specs.Addresses.{Named, named, main, channel, nothing}
 use Rattle.register_map.specs.AccessRule.{channelAccess, mainAccess}
 use Rattle.register_map.specs.Verdicts.{readRefusal, writeRefusal}
 use Rattle.channel_core.specs.declared.Channel.{Channel}
+use Rattle.channel_core.specs.Answers.{isRefusal}
 use Rattle.channel_core.specs.Answers as ans
 use Rattle.channel_core.specs.Behaviour.{dispositionNow, receiptAnswer, replyAnswerAs, replyAs, replyWordsAs}
 use Rattle.channel_core.specs.Behaviour as core
 use Rattle.channel.specs.Calls.{registerRefusal, setpointRefusal}
 use Rattle.channel.specs.Calls as chn
 use Rattle.channel.specs.OneChannel.{userRefusal}
+use Rattle.channel.proofs.Cases.{clash, by-test}
 use Rattle.board_state.specs.declared.Board.{Board}
 use Rattle.board_state.specs.State.{channelAt, withChannelAt}
 use Rattle.board_state.specs.Main.{mainValue}
-use Rattle.board.specs.Parts.{own, withOwn}
+use Rattle.board_state.specs.Parts.{own, withOwn}
 use Rattle.board.specs.Calls.{readbacksFit, setpointsFit, noChannel, readbackSize, setpointSize, writeBoardAt, writeAnswerAt, writeWordsAt, readBoardAt, readAnswerAt}
 use Rattle.board.specs.Calls as calls
-use Rattle.channel_core.specs.Answers.{isRefusal}
-use Rattle.isolation.specs.Calls.{Call, writeRegister, readRegister, writeSetpoint, arm, disarm, reply, retired, retiredLength, tick, event, changeUser, interruptLevel, Lent, none, words, buffers, first, answer, after, wordsAfter, left, refused}
+use Rattle.isolation.specs.Calls.{Call, writeRegister, readRegister, writeSetpoint, arm, disarm, reply, retired, retiredLength, tick, event, changeUser, interruptLevel, Lent, none, words, buffers, first, answer, after, wordsAfter, lentAfter, refused}
 use Rattle.isolation.specs.Isolation.{RefusedChangesNothing}
 use Rattle.isolation.proofs.Parts.{own-same}
-use Rattle.isolation.proofs.Cases.{clash, unless-refused, withChannelAt-own}
+use Rattle.isolation.proofs.Cases.{unless-refused, withChannelAt-own}
 
 -- ---- One channel
 
@@ -72,6 +73,9 @@ module _ (c : Channel) where
 
 -- ---- The board
 
+abbrev Is : {A : Type 0} → A → A → Type 0
+Is x y = y ≡ x
+
 module _ (b : Board) where
   write-at : (a : Named) (v : ℕ) → isRefusal (writeAnswerAt a v) ≡ true → writeBoardAt a b v ≡ b
   write-at (main o) v h = rw (unless-refused (writeRefusal (mainAccess o)) ans.done refl h)
@@ -90,22 +94,15 @@ module _ (b : Board) where
   read-at (channel d o) h = ap (withChannelAt b d) (read-still (channelAt b d) o h) ∙ withChannelAt-own b d
   read-at nothing h = refl
 
-  -- the board after each call
+  -- ---- The board, and the words, after each call
+
   write-board : (k a v : ℕ) → isRefusal (calls.writeAnswer b k a v) ≡ true → calls.writeBoard b k a v ≡ b
   unfolding calls.writeAnswer calls.writeBoard
-  write-board k a v h = go (readbacksFit b k) refl
-    where
-      go : (t : Bool) → readbacksFit b k ≡ t → cond t (writeBoardAt (named a) b v) b ≡ b
-      go true e = write-at (named a) v (rw e at h)
-      go false e = refl
+  write-board k a v h = by-test (Is b) (readbacksFit b k) (λ t. write-at (named a) v (rw t at h)) (λ t. refl)
 
   write-words : (s : List ℕ) (a v : ℕ) → isRefusal (calls.writeAnswer b (length s) a v) ≡ true → calls.writeWords b s a v ≡ s
   unfolding calls.writeAnswer calls.writeWords
-  write-words s a v h = go (readbacksFit b (length s)) refl
-    where
-      go : (t : Bool) → readbacksFit b (length s) ≡ t → cond t (writeWordsAt (named a) b s v) s ≡ s
-      go true e = write-words-at (named a) s v (rw e at h)
-      go false e = refl
+  write-words s a v h = by-test (Is s) (readbacksFit b (length s)) (λ t. write-words-at (named a) s v (rw t at h)) (λ t. refl)
 
   read-board : (a : ℕ) → isRefusal (calls.readAnswer b a) ≡ true → calls.readBoard b a ≡ b
   unfolding calls.readAnswer calls.readBoard
@@ -114,70 +111,47 @@ module _ (b : Board) where
   setpoint-all : (s : List ℕ) (d u f i x : ℕ) → isRefusal (calls.setpointAnswer b (length s) d u f i) ≡ true
       → calls.setpointWords b s d u f i x ≡ s
   unfolding calls.setpointAnswer calls.setpointWords
-  setpoint-all s d u f i x h = go (setpointsFit b (length s)) refl (noChannel d) refl
-    where
-      go : (t : Bool) → setpointsFit b (length s) ≡ t → (q : Bool) → noChannel d ≡ q → calls.setpointWords b s d u f i x ≡ s
-      go true e true r = rw (e, r)
-      go true e false r =
-          rw (e, r)
-          (ap (withOwn s (setpointSize b) d)
-          (setpoint-words (channelAt b d) (own s (setpointSize b) d) (b .n) u f i x (rw (e, r) at h))
-          ∙ own-same s (setpointSize b) d)
-      go false e q r = rw e
+  setpoint-all s d u f i x h =
+      by-test (Is s) (setpointsFit b (length s))
+      (λ t. by-test (Is s) (noChannel d) (λ q. refl)
+      (λ q. ap (withOwn s (setpointSize b) d)
+      (setpoint-words (channelAt b d) (own s (setpointSize b) d) (b .n) u f i x (rw (t, q) at h))
+      ∙ own-same s (setpointSize b) d))
+      (λ t. refl)
 
-  arm-board : (d : ℕ) → isRefusal (calls.armAnswer d) ≡ true → (calls.armBoard b d ≡ b) × (calls.disarmBoard b d ≡ b)
-  unfolding calls.armAnswer calls.armBoard calls.disarmBoard
-  arm-board d h = go (noChannel d) refl
-    where
-      go : (t : Bool) → noChannel d ≡ t → (calls.armBoard b d ≡ b) × (calls.disarmBoard b d ≡ b)
-      go true e = (rw e, rw e)
-      go false e = clash (rw e at h)
+  armed-board : (d : ℕ) (on : Bool) → isRefusal (calls.armAnswer d) ≡ true → calls.setArmed b d on ≡ b
+  unfolding calls.armAnswer calls.setArmed
+  armed-board d on h = by-test (Is b) (noChannel d) (λ t. refl) (λ t. clash (rw t at h))
 
   reply-board : (k d f : ℕ) → isRefusal (calls.replyAnswer b k d f) ≡ true → calls.replyBoard b k d f ≡ b
   unfolding calls.replyAnswer calls.replyBoard
-  reply-board k d f h = go (readbacksFit b k) refl (noChannel d) refl
-    where
-      go : (t : Bool) → readbacksFit b k ≡ t → (q : Bool) → noChannel d ≡ q → calls.replyBoard b k d f ≡ b
-      go true e true r = rw (e, r)
-      go true e false r = rw (e, r) (ap (withChannelAt b d) (reply-still (channelAt b d) (b .m) f (rw (e, r) at h)) ∙ withChannelAt-own b d)
-      go false e q r = rw e
+  reply-board k d f h =
+      by-test (Is b) (readbacksFit b k)
+      (λ t. by-test (Is b) (noChannel d) (λ q. refl)
+      (λ q. ap (withChannelAt b d) (reply-still (channelAt b d) (b .m) f (rw (t, q) at h)) ∙ withChannelAt-own b d))
+      (λ t. refl)
 
   reply-all : (s : List ℕ) (d f : ℕ) → isRefusal (calls.replyAnswer b (length s) d f) ≡ true → calls.replyWords b s d f ≡ s
   unfolding calls.replyAnswer calls.replyWords
-  reply-all s d f h = go (readbacksFit b (length s)) refl (noChannel d) refl
-    where
-      go : (t : Bool) → readbacksFit b (length s) ≡ t → (q : Bool) → noChannel d ≡ q → calls.replyWords b s d f ≡ s
-      go true e true r = rw (e, r)
-      go true e false r =
-          rw (e, r)
-          (ap (withOwn s (readbackSize b) d)
-          (reply-words (channelAt b d) (own s (readbackSize b) d) (b .m) (b .user) f (rw (e, r) at h))
-          ∙ own-same s (readbackSize b) d)
-      go false e q r = rw e
+  reply-all s d f h =
+      by-test (Is s) (readbacksFit b (length s))
+      (λ t. by-test (Is s) (noChannel d) (λ q. refl)
+      (λ q. ap (withOwn s (readbackSize b) d)
+      (reply-words (channelAt b d) (own s (readbackSize b) d) (b .m) (b .user) f (rw (t, q) at h))
+      ∙ own-same s (readbackSize b) d))
+      (λ t. refl)
 
   tick-board : (l : Lent) → refused b tick l ≡ true → calls.tickBoard b (first l) ≡ b
   unfolding answer calls.tickBoardAnswer calls.tickBoard
-  tick-board l h = go (setpointsFit b (length (first l))) refl
-    where
-      go : (t : Bool) → setpointsFit b (length (first l)) ≡ t → calls.tickBoard b (first l) ≡ b
-      go true e = clash (rw e at h)
-      go false e = rw e
+  tick-board l h = by-test (Is b) (setpointsFit b (length (first l))) (λ t. clash (rw t at h)) (λ t. refl)
 
   event-board : (k x : ℕ) → isRefusal (calls.eventAnswer b k) ≡ true → calls.eventBoard b k x ≡ b
   unfolding calls.eventAnswer calls.eventBoard
-  event-board k x h = go (readbacksFit b k) refl
-    where
-      go : (t : Bool) → readbacksFit b k ≡ t → calls.eventBoard b k x ≡ b
-      go true e = clash (rw e at h)
-      go false e = rw e
+  event-board k x h = by-test (Is b) (readbacksFit b k) (λ t. clash (rw t at h)) (λ t. refl)
 
   event-words : (s : List ℕ) (x : ℕ) → isRefusal (calls.eventAnswer b (length s)) ≡ true → calls.eventWords b s x ≡ s
   unfolding calls.eventAnswer calls.eventWords
-  event-words s x h = go (readbacksFit b (length s)) refl
-    where
-      go : (t : Bool) → readbacksFit b (length s) ≡ t → calls.eventWords b s x ≡ s
-      go true e = clash (rw e at h)
-      go false e = rw e
+  event-words s x h = by-test (Is s) (readbacksFit b (length s)) (λ t. clash (rw t at h)) (λ t. refl)
 
   user-board : (u : ℕ) → isRefusal (calls.userAnswer u) ≡ true → calls.userBoard b u ≡ b
   unfolding calls.userAnswer calls.userBoard
@@ -190,8 +164,8 @@ module _ (b : Board) where
   refused-board (writeRegister a v) l h = write-board (length (first l)) a v h
   refused-board (readRegister a) l h = read-board a h
   refused-board (writeSetpoint d u f i x) l h = refl
-  refused-board (arm d) l h = arm-board d h .0
-  refused-board (disarm d) l h = arm-board d h .1
+  refused-board (arm d) l h = armed-board d true h
+  refused-board (disarm d) l h = armed-board d false h
   refused-board (reply d f) l h = reply-board (length (first l)) d f h
   refused-board (retired d) l h = refl
   refused-board (retiredLength d) l h = refl
@@ -215,10 +189,10 @@ module _ (b : Board) where
   refused-words (changeUser u) s h = refl
   refused-words interruptLevel s h = refl
 
-  refused-left : (x : Call) (l : Lent) → refused b x l ≡ true → left b x l ≡ l
-  refused-left x none h = refl
-  refused-left x (words s) h = ap words (refused-words x s h)
-  refused-left x (buffers s t) h = refl
+  refused-lent : (x : Call) (l : Lent) → refused b x l ≡ true → lentAfter b x l ≡ l
+  refused-lent x none h = refl
+  refused-lent x (words s) h = ap words (refused-words x s h)
+  refused-lent x (buffers s t) h = refl
 
 pub refused-changes-nothing : RefusedChangesNothing
-refused-changes-nothing b x l h = (refused-board b x l h, refused-left b x l h)
+refused-changes-nothing b x l h = (refused-board b x l h, refused-lent b x l h)

@@ -1,6 +1,7 @@
 -- Every call keeps the depths, the four channels and the lengths of both memories. Assumes nothing.
 use Prim.Native.Nat.{ℕ, _*_}
 use mathlib.Core.Path.{_≡_, refl, sym, ap, _∙_}
+use mathlib.Core.Bool.{Bool, true, false}
 use mathlib.Core.List.{List}
 use native.Mathlib.Omega.{arith}
 use lib.ListN.{length, length-set}
@@ -11,6 +12,8 @@ use Rattle.register_map.specs.Verdicts.{readRefusal, writeRefusal}
 use Rattle.channel_core.specs.Behaviour as core
 use Rattle.channel.specs.Calls as chn
 use Rattle.channel.specs.OneChannel.{userRefusal}
+use Rattle.channel.proofs.Cases.{either}
+use Rattle.histories.proofs.Lengths.{SameLength, written-length, setpoint-length, reply-length}
 use Rattle.board_state.specs.declared.Board.{Board}
 use Rattle.board_state.specs.State.{channelAt}
 use Rattle.board_state.specs.Main.{mainWritten, mainRead, statusRead, takenAt}
@@ -18,8 +21,8 @@ use Rattle.board.specs.Calls.{noChannel, setpointsFit, readbacksFit, writeBoard
 use Rattle.board.specs.Calls as calls
 use Rattle.board.specs.Worlds.{World}
 use Rattle.isolation.specs.Calls.{Call, writeRegister, readRegister, writeSetpoint, arm, disarm, reply, retired, retiredLength, tick, event, changeUser, interruptLevel, Lent, first, after, wordsAfter}
-use Rattle.isolation.proofs.Cases.{cond-case, named-number}
-use Rattle.isolation.proofs.Words.{over-length, setpoints-over, replies-over, writes-over, written-length, setpoint-length, reply-length}
+use Rattle.isolation.proofs.Cases.{named-number}
+use Rattle.isolation.proofs.Words.{over-length, setpoints-over, replies-over, writes-over}
 use Rattle.isolation.proofs.Worlds.{Good, plain, parted-sets, parted-reads, full-reads}
 use Rattle.isolation.proofs.Events.{good-first}
 
@@ -36,76 +39,69 @@ module _ (b : Board) where
 
   write-at : (a : Named) (v : ℕ) → Shape b (writeBoardAt a b v)
   unfolding mainWritten
-  write-at (main o) v =
-      cond-case (Shape b) (eqb (writeRefusal (mainAccess o)) 0)
-      (λ t. record { n = refl; m = refl; channels = refl })
-      (λ t. same)
+  write-at (main o) v = either (Shape b) (eqb (writeRefusal (mainAccess o)) 0) (record { n = refl; m = refl; channels = refl }) same
   write-at (channel d o) v = record { n = refl; m = refl; channels = simp length-set }
   write-at nothing v = same
 
   read-at : (a : Named) → Shape b (readBoardAt a b)
   unfolding mainRead statusRead takenAt
   read-at (main o) =
-      cond-case (Shape b) (eqb (readRefusal (mainAccess o)) 0)
-      (λ t. cond-case (Shape b) (eqb o 0x28)
-      (λ q. record { n = refl; m = refl; channels = simp length-set })
-      (λ q. cond-case (Shape b) (eqb o 0x2a) (λ p. record { n = refl; m = refl; channels = simp length-set }) (λ p. same)))
-      (λ t. same)
+      either (Shape b) (eqb (readRefusal (mainAccess o)) 0)
+      (either (Shape b) (eqb o 0x28) (record { n = refl; m = refl; channels = simp length-set })
+      (either (Shape b) (eqb o 0x2a) (record { n = refl; m = refl; channels = simp length-set }) same))
+      same
   read-at (channel d o) = record { n = refl; m = refl; channels = simp length-set }
   read-at nothing = same
 
+  armed : (d : ℕ) (on : Bool) → Shape b (calls.setArmed b d on)
+  unfolding calls.setArmed
+  armed d on = either (Shape b) (noChannel d) same (record { n = refl; m = refl; channels = simp length-set })
+
   pub shape : (x : Call) (l : Lent) → Shape b (after b x l)
-  unfolding after calls.writeBoard calls.readBoard calls.armBoard calls.disarmBoard calls.replyBoard calls.tickBoard calls.eventBoard eventBoards eventBoardAt calls.userBoard changedAt
-  shape (writeRegister a v) l =
-      cond-case (Shape b) (readbacksFit b (length (first l))) (λ t. write-at (named a) v) (λ t. same)
+  unfolding after calls.writeBoard calls.readBoard calls.replyBoard calls.tickBoard calls.eventBoard eventBoards eventBoardAt calls.userBoard changedAt
+  shape (writeRegister a v) l = either (Shape b) (readbacksFit b (length (first l))) (write-at (named a) v) same
   shape (readRegister a) l = read-at (named a)
   shape (writeSetpoint d u f i x) l = same
-  shape (arm d) l =
-      cond-case (Shape b) (noChannel d) (λ t. same) (λ t. record { n = refl; m = refl; channels = simp length-set })
-  shape (disarm d) l =
-      cond-case (Shape b) (noChannel d) (λ t. same) (λ t. record { n = refl; m = refl; channels = simp length-set })
+  shape (arm d) l = armed d true
+  shape (disarm d) l = armed d false
   shape (reply d f) l =
-      cond-case (Shape b) (readbacksFit b (length (first l)))
-      (λ t. cond-case (Shape b) (noChannel d) (λ q. same) (λ q. record { n = refl; m = refl; channels = simp length-set }))
-      (λ t. same)
+      either (Shape b) (readbacksFit b (length (first l)))
+      (either (Shape b) (noChannel d) same (record { n = refl; m = refl; channels = simp length-set }))
+      same
   shape (retired d) l = same
   shape (retiredLength d) l = same
   shape tick l =
-      cond-case (Shape b) (setpointsFit b (length (first l)))
-      (λ t. record { n = refl; m = refl; channels = simp length-set })
-      (λ t. same)
+      either (Shape b) (setpointsFit b (length (first l))) (record { n = refl; m = refl; channels = simp length-set }) same
   shape (event x) l =
-      cond-case (Shape b) (readbacksFit b (length (first l)))
-      (λ t. record { n = refl; m = refl; channels = simp length-set })
-      (λ t. same)
+      either (Shape b) (readbacksFit b (length (first l))) (record { n = refl; m = refl; channels = simp length-set }) same
   shape (changeUser u) l =
-      cond-case (Shape b) (eqb (userRefusal u) 0)
-      (λ t. cond-case (Shape b) (eqb u (b .user)) (λ q. same) (λ q. record { n = refl; m = refl; channels = simp length-set }))
-      (λ t. same)
+      either (Shape b) (eqb (userRefusal u) 0)
+      (either (Shape b) (eqb u (b .user)) same (record { n = refl; m = refl; channels = simp length-set }))
+      same
   shape interruptLevel l = same
 
 -- ---- The memories
 
 module _ (b : Board) (s : List ℕ) where
-  write-length : (a v : ℕ) → length (calls.writeWords b s a v) ≡ length s
+  write-length : (a v : ℕ) → SameLength s (calls.writeWords b s a v)
   unfolding calls.writeWords
   write-length a v = go (named a) refl
     where
-      go : (n : Named) → named a ≡ n → length (calls.writeWords b s a v) ≡ length s
-      go (main o) e = rw e (cond-case (λ (r : List ℕ). length r ≡ length s) (readbacksFit b (length s)) (λ t. refl) (λ t. refl))
+      go : (n : Named) → named a ≡ n → SameLength s (calls.writeWords b s a v)
+      go (main o) e = rw e (either (SameLength s) (readbacksFit b (length s)) refl refl)
       go (channel d o) e =
           ap length (writes-over b s d a o v e (named-number a d o e))
           ∙ over-length s (b .m * 8) (b .m * 2) d (λ (p : List ℕ). chn.writtenWords (channelAt b d) p (b .m) o v) (parted-reads b)
           (λ p. written-length (channelAt b d) p (b .m) o v)
-      go nothing e = rw e (cond-case (λ (r : List ℕ). length r ≡ length s) (readbacksFit b (length s)) (λ t. refl) (λ t. refl))
+      go nothing e = rw e (either (SameLength s) (readbacksFit b (length s)) refl refl)
 
-  setpoints-length : (d u f i x : ℕ) → length (calls.setpointWords b s d u f i x) ≡ length s
+  setpoints-length : (d u f i x : ℕ) → SameLength s (calls.setpointWords b s d u f i x)
   setpoints-length d u f i x =
       ap length (setpoints-over b s d u f i x)
       ∙ over-length s (b .n * 64) (b .n * 16) d (λ (p : List ℕ). chn.setpointWords (channelAt b d) p (b .n) u f i x) (parted-sets b)
       (λ p. setpoint-length (channelAt b d) p (b .n) u f i x)
 
-  replies-length : (d f : ℕ) → length (calls.replyWords b s d f) ≡ length s
+  replies-length : (d f : ℕ) → SameLength s (calls.replyWords b s d f)
   replies-length d f =
       ap length (replies-over b s d f)
       ∙ over-length s (b .m * 8) (b .m * 2) d (λ (p : List ℕ). core.replyWords (channelAt b d) p (b .m) (b .user) f) (parted-reads b)
@@ -114,7 +110,7 @@ module _ (b : Board) (s : List ℕ) where
 -- ---- So a good world stays good
 
 module _ (w : World) (g : Good w) where
-  good-by : (b : Board) (s r : List ℕ) → Shape (w .board) b → length s ≡ length (w .setpoints) → length r ≡ length (w .readbacks)
+  good-by : (b : Board) (s r : List ℕ) → Shape (w .board) b → SameLength (w .setpoints) s → SameLength (w .readbacks) r
       → Good (record { board = b; setpoints = s; readbacks = r })
   good-by b s r k p q =
       record {
@@ -123,7 +119,7 @@ module _ (w : World) (g : Good w) where
         reads = q ∙ g .reads ∙ ap (λ (m : ℕ). m * 8) (sym (k .m));
       }
 
-  event-kept : (x : ℕ) → length (calls.eventWords (w .board) (w .readbacks) x) ≡ length (w .readbacks)
+  event-kept : (x : ℕ) → SameLength (w .readbacks) (calls.eventWords (w .board) (w .readbacks) x)
   unfolding calls.eventWords eventBoards eventBoardAt
   event-kept x = rw (full-reads w g) (good-first w g x 4 (omega arith) .reads ∙ sym (g .reads))
 

@@ -2,22 +2,21 @@
 use Prim.Native.Nat.{ℕ, _+_, _*_, _<_}
 use mathlib.Core.Path.{_≡_, refl, sym, ap, subst}
 use mathlib.Core.Logic.{inl, inr}
-use mathlib.Core.Bool.{Bool, true, false}
+use mathlib.Core.Bool.{true, false}
 use lib.ListN.{length}
-use lib.Dec.{eqb}
+use Rattle.register_map.proofs.Laws.{channel-named}
 use Rattle.channel_core.specs.Answers.{Answer, isRefusal}
-use Rattle.channel.specs.Calls as chn
 use Rattle.channel.specs.OneChannel.{OneChannel, response, transitions}
 use Rattle.channel.specs.OneChannel as to
+use Rattle.channel.proofs.Cases.{either}
+use Rattle.histories.proofs.Depths.{depths-kept}
 use Rattle.board_state.specs.declared.Board.{Board}
-use Rattle.board.specs.Calls.{noChannel, setpointsFit, readAnswer, retiredWords, retiredAnswer, setpointAnswer, tickBoardAnswer}
+use Rattle.board.specs.Calls.{setpointsFit, readAnswer, setpointAnswer, tickBoardAnswer}
 use Rattle.board.specs.Worlds.{World}
-use Rattle.isolation.specs.Calls.{readRegister, writeSetpoint, tick, Lent, none, words, first, answer, refused, given, last, opening}
+use Rattle.isolation.specs.Calls.{readRegister, writeSetpoint, tick, Lent, none, words, first, answer, refused, given, worldAfter, opening}
 use Rattle.isolation.specs.Feeding.{fed, view}
 use Rattle.isolation.specs.Isolation.{oneChannelAt, MatchesOneChannel, Shows, IsolationShown, astray, NotVacuous}
 use Rattle.isolation.proofs.Parts.{Number}
-use Rattle.isolation.proofs.Cases.{cond-case, named-at}
-use Rattle.isolation.proofs.One.{Depths, depths}
 use Rattle.isolation.proofs.Worlds.{Good, step-refused, full-sets}
 use Rattle.isolation.proofs.Mains.{status-bit}
 use Rattle.isolation.proofs.Observing.{observe-read}
@@ -26,7 +25,7 @@ use Rattle.isolation.proofs.Isolation.{isolation, good-opening}
 module _ (c : ℕ) (h : Number c) (w : World) where
   register-shown : (o : ℕ) → o < 0x800 → readAnswer (w .board) (0x800 * c + o) ≡ response (view c w) (to.readRegister o)
   unfolding answer
-  register-shown o l = observe-read w c h (0x800 * c + o) o none (named-at c o h l)
+  register-shown o l = observe-read w c h (0x800 * c + o) o none (channel-named c o (h .low) (h .high) l)
 
   view-shown : Shows (w .board .n) (w .board .m) c w (view c w)
   view-shown =
@@ -48,18 +47,18 @@ module _ (c : ℕ) (h : Number c) (w : World) where
 pub isolation-shown : IsolationShown
 isolation-shown n m s r e c low high xs a =
     let o = transitions (oneChannelAt c n m s r) (fed c xs) in
-    let d : Depths (oneChannelAt c n m s r) o = depths (oneChannelAt c n m s r) (fed c xs) in
+    let d = depths-kept (oneChannelAt c n m s r) (fed c xs) in
     let x : MatchesOneChannel c (opening n m s r) xs (oneChannelAt c n m s r) = isolation n m s r e c low high xs a in
-    subst (λ (k : ℕ). Shows k m c (last (opening n m s r) xs) o) (d .n)
-    (subst (λ (k : ℕ). Shows (o .n) k c (last (opening n m s r) xs) o) (d .m)
-    (shown c (record { low = low; high = high }) (last (opening n m s r) xs) o (x .ends)))
+    subst (λ (k : ℕ). Shows k m c (worldAfter (opening n m s r) xs) o) (d .0)
+    (subst (λ (k : ℕ). Shows (o .n) k c (worldAfter (opening n m s r) xs) o) (d .1)
+    (shown c (record { low = low; high = high }) (worldAfter (opening n m s r) xs) o (x .ends)))
 
 -- ---- There are such lists
 
 astray-refused : (b : Board) (l : Lent) → refused b (writeSetpoint 5 1 1 0 0) l ≡ true
 unfolding answer setpointAnswer
 astray-refused b l =
-    cond-case (λ (a : Answer). isRefusal a ≡ true) (setpointsFit b (length (first l))) (λ t. refl) (λ t. refl)
+    either (λ (a : Answer). isRefusal a ≡ true) (setpointsFit b (length (first l))) refl refl
 
 tick-answered : (w : World) → Good w → refused (w .board) tick (words (w .setpoints)) ≡ false
 unfolding answer tickBoardAnswer

@@ -13,21 +13,23 @@ use Rattle.channel_core.specs.declared.Channel.{Channel}
 use Rattle.channel_core.specs.State.{opened}
 use Rattle.channel_core.specs.Behaviour as core
 use Rattle.channel.specs.Calls as chn
-use Rattle.channel.specs.OneChannel.{withChannel, withSetpoints, withReadbacks, withUser, transition, refusalOf, effect, userRefusal}
+use Rattle.channel.specs.OneChannel.{withChannel, withSetpoints, withUser, transition, refusalOf, effect, userRefusal}
 use Rattle.channel.specs.OneChannel as to
+use Rattle.channel.proofs.Cases.{either}
+use Rattle.histories.proofs.Lengths.{written-length, setpoint-length, reply-length}
 use Rattle.board_state.specs.declared.Board.{Board}
 use Rattle.board_state.specs.State.{channelAt}
 use Rattle.board_state.specs.Main.{mainWritten, mainRead, statusRead, takenAt}
-use Rattle.board.specs.Parts.{own}
+use Rattle.board_state.specs.Parts.{own}
 use Rattle.board.specs.Calls.{tickChannel, changedAt}
 use Rattle.board.specs.Calls as calls
 use Rattle.board.specs.Worlds.{World}
-use Rattle.isolation.specs.Calls.{writeRegister, readRegister, writeSetpoint, arm, disarm, reply, retired, retiredLength, tick, event, changeUser, withBoard, after, wordsAfter}
+use Rattle.isolation.specs.Calls.{writeRegister, readRegister, writeSetpoint, reply, retired, retiredLength, tick, event, changeUser, withBoard, after, wordsAfter}
 use Rattle.isolation.specs.Feeding.{view}
 use Rattle.isolation.proofs.Parts.{Number}
-use Rattle.isolation.proofs.Cases.{cond-case, four-stored, withChannelAt-same, in-range}
-use Rattle.isolation.proofs.One.{transition-write, transition-reply, transition-event, transition-setpoint, transition-tick, transition-read, transition-main, transition-retired}
-use Rattle.isolation.proofs.Words.{over-mine, setpoints-over, replies-over, writes-over, written-length, setpoint-length, reply-length}
+use Rattle.isolation.proofs.Cases.{four-stored, withChannelAt-same, in-range}
+use Rattle.isolation.proofs.One.{withBoth, transition-write, transition-reply, transition-event, transition-setpoint, transition-tick, transition-read, transition-main, transition-retired}
+use Rattle.isolation.proofs.Words.{over-mine, setpoints-over, replies-over, writes-over}
 use Rattle.isolation.proofs.Worlds.{Good, plain, parted-sets, parted-reads, full-sets, full-reads}
 use Rattle.isolation.proofs.Events.{past-it}
 use Rattle.isolation.proofs.Mains.{status-taken}
@@ -40,7 +42,7 @@ module _ (w : World) (g : Good w) (c : ℕ) (h : Number c) where
   unfolding after wordsAfter calls.writeBoard
   view-write a o v e =
       rw (full-reads w g, e)
-      (ap₂ (withReadbacks (view c w)) (withChannelAt-same (w .board) c _ (g .four) h)
+      (ap₂ (withBoth (view c w)) (withChannelAt-same (w .board) c _ (g .four) h)
       (ap (λ (r : List ℕ). own r (w .board .m * 2) c) (writes-over (w .board) (w .readbacks) c a o v e h)
       ∙ over-mine (w .readbacks) (w .board .m * 8) (w .board .m * 2) c
       (λ (p : List ℕ). chn.writtenWords (channelAt (w .board) c) p (w .board .m) o v) (parted-reads (w .board))
@@ -63,19 +65,16 @@ module _ (w : World) (g : Good w) (c : ℕ) (h : Number c) where
       (λ p. setpoint-length (channelAt (w .board) c) p (w .board .n) u f i x) (g .sets) h)
       ∙ sym (transition-setpoint (view c w) (length (w .setpoints)) (full-sets w g) u f i x)
 
-  pub view-arm : view c (plain w (arm c)) ≡ transition (view c w) to.arm
-  unfolding after calls.armBoard transition refusalOf effect
-  view-arm = rw (in-range c h) (ap (withChannel (view c w)) (withChannelAt-same (w .board) c _ (g .four) h))
-
-  pub view-disarm : view c (plain w (disarm c)) ≡ transition (view c w) to.disarm
-  unfolding after calls.disarmBoard transition refusalOf effect
-  view-disarm = rw (in-range c h) (ap (withChannel (view c w)) (withChannelAt-same (w .board) c _ (g .four) h))
+  pub view-armed : (on : Bool)
+      → view c (withBoard w (calls.setArmed (w .board) c on)) ≡ withChannel (view c w) (chn.setArmed (channelAt (w .board) c) on)
+  unfolding calls.setArmed
+  view-armed on = rw (in-range c h) (ap (withChannel (view c w)) (withChannelAt-same (w .board) c _ (g .four) h))
 
   pub view-reply : (f : ℕ) → view c (plain w (reply c f)) ≡ transition (view c w) (to.reply (length (w .readbacks)) f)
   unfolding after wordsAfter calls.replyBoard
   view-reply f =
       rw (full-reads w g, in-range c h)
-      (ap₂ (withReadbacks (view c w)) (withChannelAt-same (w .board) c _ (g .four) h)
+      (ap₂ (withBoth (view c w)) (withChannelAt-same (w .board) c _ (g .four) h)
       (ap (λ (r : List ℕ). own r (w .board .m * 2) c) (replies-over (w .board) (w .readbacks) c f)
       ∙ over-mine (w .readbacks) (w .board .m * 8) (w .board .m * 2) c
       (λ (p : List ℕ). core.replyWords (channelAt (w .board) c) p (w .board .m) (w .board .user) f) (parted-reads (w .board))
@@ -115,7 +114,7 @@ module _ (w : World) (g : Good w) (c : ℕ) (h : Number c) where
       go true e true r = rw (e, r)
       go true e false r =
           rw (e, r)
-          (ap (withUser (view c w) u)
+          (ap (λ (x : Channel). withUser (withChannel (view c w) x) u)
           (four-stored (λ (j : ℕ) (x : Channel). core.userChanged x) (w .board .channels) opened c (g .four) h))
       go false e q r = rw e
 
@@ -124,7 +123,7 @@ module _ (w : World) (g : Good w) (c : ℕ) (h : Number c) where
   unfolding after wordsAfter calls.writeBoard calls.writeWords mainWritten
   view-write-main a o v e =
       rw (full-reads w g, e)
-      (cond-case (λ (b : Board). view c (withBoard w b) ≡ view c w) (eqb (writeRefusal (mainAccess o)) 0) (λ t. refl) (λ t. refl)
+      (either (λ (b : Board). view c (withBoard w b) ≡ view c w) (eqb (writeRefusal (mainAccess o)) 0) refl refl
       ∙ sym (transition-main (view c w) (length (w .readbacks)) o v))
 
   main-read : (o : ℕ) → view c (withBoard w (mainRead (w .board) o)) ≡ withChannel (view c w) (to.mainRead (channelAt (w .board) c) o)

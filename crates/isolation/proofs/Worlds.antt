@@ -7,10 +7,10 @@ use native.Mathlib.Omega.{arith}
 use lib.ListN.{length}
 use lib.Dec.{eqb}
 use borrow.Author.Tests.{eq-eqb}
+use Rattle.channel.proofs.Cases.{by-test}
 use Rattle.board_state.specs.declared.Board.{Board}
 use Rattle.board.specs.Worlds.{World}
-use Rattle.isolation.specs.Calls.{Call, writeRegister, readRegister, writeSetpoint, arm, disarm, reply, retired, retiredLength, tick, event, changeUser, interruptLevel, Lent, Item, after, left, refused, given, withBoard, back, step, Fits}
-use Rattle.isolation.proofs.Cases.{cond-case}
+use Rattle.isolation.specs.Calls.{Call, writeRegister, readRegister, writeSetpoint, arm, disarm, reply, retired, retiredLength, tick, event, changeUser, interruptLevel, Lent, Item, after, lentAfter, refused, given, withBoard, back, step, Fits}
 use Rattle.isolation.proofs.Refused.{refused-changes-nothing}
 
 pub either : (w : World) (i : Item) → Fits w i → (refused (w .board) (i .call) (i .lent) ≡ true) ⊎ (i .lent ≡ given w (i .call))
@@ -21,7 +21,7 @@ pub step-refused : (w : World) (i : Item) → refused (w .board) (i .call) (i .l
 unfolding step
 step-refused w i e = rw e (ap (withBoard w) (refused-changes-nothing (w .board) (i .call) (i .lent) e .0))
 
-back-own : (w : World) (x : Call) (b : Board) → back w x b (given w x) ≡ withBoard w b
+back-own : (w : World) (x : Call) (b : Board) → back (withBoard w b) x (given w x) ≡ withBoard w b
 back-own w (writeRegister a v) b = refl
 back-own w (readRegister a) b = refl
 back-own w (writeSetpoint d u f i x) b = refl
@@ -37,14 +37,14 @@ back-own w interruptLevel b = refl
 
 -- the call on the memory as left: a refused one leaves what it was lent, so no test remains
 abbrev pub plain : World → Call → World
-plain w x = back w x (after (w .board) x (given w x)) (left (w .board) x (given w x))
+plain w x = back (withBoard w (after (w .board) x (given w x))) x (lentAfter (w .board) x (given w x))
 
 pub step-given : (w : World) (i : Item) → i .lent ≡ given w (i .call) → step w i ≡ plain w (i .call)
 unfolding step
 step-given w i e =
     ap (λ (l : Lent). step w (record { call = i .call; lent = l })) e
-    ∙ cond-case (λ (r : World). r ≡ plain w (i .call)) (refused (w .board) (i .call) (given w (i .call)))
-    (λ t. sym (ap (back w (i .call) (after (w .board) (i .call) (given w (i .call))))
+    ∙ by-test (λ (r : World). r ≡ plain w (i .call)) (refused (w .board) (i .call) (given w (i .call)))
+    (λ t. sym (ap (back (withBoard w (after (w .board) (i .call) (given w (i .call)))) (i .call))
     (refused-changes-nothing (w .board) (i .call) (given w (i .call)) t .1)
     ∙ back-own w (i .call) (after (w .board) (i .call) (given w (i .call)))))
     (λ t. refl)

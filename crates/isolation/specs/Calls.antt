@@ -4,14 +4,13 @@ use Prim.Native.Nat.{ℕ, _*_}
 use mathlib.Core.Path.{_≡_}
 use mathlib.Core.Logic.{_⊎_}
 use mathlib.Core.List.{List, [], _∷_}
-use mathlib.Core.Bool.{Bool, true, false, cond}
+use mathlib.Core.Bool.{Bool, true, cond}
 use lib.ListN.{length, take, drop}
-use Rattle.channel_core.specs.Answers.{Answer}
 use Rattle.channel_core.specs.Answers as ans
 use Rattle.board_state.specs.declared.Board.{Board}
 use Rattle.board_state.specs.Main.{levelOf}
-use Rattle.board.specs.Parts.{own}
-use Rattle.board.specs.Worlds.{World}
+use Rattle.board_state.specs.Parts.{own}
+use Rattle.board.specs.Worlds.{World, world}
 use Rattle.board.specs.Answers.{BoardAnswer, one, refuses}
 use Rattle.board.specs.Calls as calls
 
@@ -102,10 +101,10 @@ wordsAfter b (event code) s = calls.eventWords b s code
 wordsAfter b (changeUser user) s = s
 wordsAfter b interruptLevel s = s
 
-abbrev pub left : Board → Call → Lent → Lent
-left b x none = none
-left b x (words s) = words (wordsAfter b x s)
-left b x (buffers s t) = buffers s t
+abbrev pub lentAfter : Board → Call → Lent → Lent
+lentAfter b x none = none
+lentAfter b x (words s) = words (wordsAfter b x s)
+lentAfter b x (buffers s t) = buffers s t
 
 -- ---- Refusals
 
@@ -135,29 +134,30 @@ given w (event code) = words (w .readbacks)
 given w (changeUser user) = none
 given w interruptLevel = none
 
+-- the world with one part of it changed
 abbrev pub withBoard : World → Board → World
 withBoard w b = record { board = b; setpoints = w .setpoints; readbacks = w .readbacks }
 
-abbrev pub withSetpoints : World → Board → List ℕ → World
-withSetpoints w b s = record { board = b; setpoints = s; readbacks = w .readbacks }
+abbrev pub withSetpoints : World → List ℕ → World
+withSetpoints w s = record { board = w .board; setpoints = s; readbacks = w .readbacks }
 
-abbrev pub withReadbacks : World → Board → List ℕ → World
-withReadbacks w b s = record { board = b; setpoints = w .setpoints; readbacks = s }
+abbrev pub withReadbacks : World → List ℕ → World
+withReadbacks w s = record { board = w .board; setpoints = w .setpoints; readbacks = s }
 
--- the world with this board, and with the lent memory come back
-abbrev pub back : World → Call → Board → Lent → World
-back w (writeRegister address value) b l = withReadbacks w b (first l)
-back w (readRegister address) b l = withBoard w b
-back w (writeSetpoint number user buffer index word) b l = withSetpoints w b (first l)
-back w (arm number) b l = withBoard w b
-back w (disarm number) b l = withBoard w b
-back w (reply number frame) b l = withReadbacks w b (first l)
-back w (retired number) b l = withBoard w b
-back w (retiredLength number) b l = withBoard w b
-back w tick b l = withSetpoints w b (first l)
-back w (event code) b l = withReadbacks w b (first l)
-back w (changeUser user) b l = withBoard w b
-back w interruptLevel b l = withBoard w b
+-- the world with the memory that the call was lent come back
+abbrev pub back : World → Call → Lent → World
+back w (writeRegister address value) l = withReadbacks w (first l)
+back w (readRegister address) l = w
+back w (writeSetpoint number user buffer index word) l = withSetpoints w (first l)
+back w (arm number) l = w
+back w (disarm number) l = w
+back w (reply number frame) l = withReadbacks w (first l)
+back w (retired number) l = w
+back w (retiredLength number) l = w
+back w tick l = withSetpoints w (first l)
+back w (event code) l = withReadbacks w (first l)
+back w (changeUser user) l = w
+back w interruptLevel l = w
 
 -- the board by the contract always; the memory by the contract, or where the call is refused as it was: what is lent to a refused call is
 -- no memory of the world
@@ -165,7 +165,7 @@ unfoldable pub step : World → Item → World
 step w i =
     cond (refused (w .board) (i .call) (i .lent))
     (withBoard w (after (w .board) (i .call) (i .lent)))
-    (back w (i .call) (after (w .board) (i .call) (i .lent)) (left (w .board) (i .call) (i .lent)))
+    (back (withBoard w (after (w .board) (i .call) (i .lent))) (i .call) (lentAfter (w .board) (i .call) (i .lent)))
 
 -- ---- Lists of calls
 
@@ -179,15 +179,10 @@ Allowed w [] = Unit {0}
 Allowed w (i ∷ is) = Fits w i × Allowed (step w i) is
 
 -- the world after a list
-abbrev pub last : World → List Item → World
-last w [] = w
-last w (i ∷ is) = last (step w i) is
+abbrev pub worldAfter : World → List Item → World
+worldAfter w [] = w
+worldAfter w (i ∷ is) = worldAfter (step w i) is
 
 -- the world of an opening: "Opening leaves lent words as they are"
 abbrev pub opening : ℕ → ℕ → List ℕ → List ℕ → World
-opening n m setpoints readbacks =
-    record {
-      board = calls.openBoard n m (length setpoints) (length readbacks);
-      setpoints = setpoints;
-      readbacks = readbacks;
-    }
+opening n m setpoints readbacks = world (calls.openBoard n m (length setpoints) (length readbacks)) setpoints readbacks

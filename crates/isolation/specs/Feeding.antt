@@ -1,5 +1,5 @@
--- Document 01, 'What holds it to this': what a channel is fed of a call, what it hears of the answer, and what of the world is its own.
-use Prim.Native.Nat.{ℕ, zero, suc, _+_, _*_}
+-- Document 01, 'What holds it to this': what a channel is fed of a call, what it observes of the answer, and what of the world is its own.
+use Prim.Native.Nat.{ℕ, _+_, _*_}
 use mathlib.Core.List.{List, [], _∷_, _++_}
 use mathlib.Core.Bool.{Bool, true, false, cond, _||_}
 use lib.ListN.{length}
@@ -11,8 +11,8 @@ use Rattle.channel_core.specs.Answers as ans
 use Rattle.channel.specs.OneChannel.{OneChannel, ChannelCall}
 use Rattle.channel.specs.OneChannel as to
 use Rattle.board_state.specs.State.{channelAt}
-use Rattle.board.specs.Parts.{own}
-use Rattle.board.specs.Answers.{BoardAnswer, one, each}
+use Rattle.board_state.specs.Parts.{own}
+use Rattle.board.specs.Answers.{BoardAnswer, one, each, ofFour}
 use Rattle.board.specs.Worlds.{World}
 use Rattle.isolation.specs.Calls.{Call, writeRegister, readRegister, writeSetpoint, arm, disarm, reply, retired, retiredLength, tick, event, changeUser, interruptLevel, first, second, Item, answer, step}
 
@@ -76,24 +76,18 @@ feed c interruptLevel k j = []
 abbrev pub feeds : ℕ → Item → List ChannelCall
 feeds c i = feed c (i .call) (length (first (i .lent))) (length (second (i .lent)))
 
--- ---- What channel c hears
-
-abbrev pub ofFour : {A : Type 0} → ℕ → A → A → A → A → A
-ofFour zero f g h k = f
-ofFour (suc zero) f g h k = f
-ofFour (suc (suc zero)) f g h k = g
-ofFour (suc (suc (suc zero))) f g h k = h
-ofFour (suc (suc (suc (suc c)))) f g h k = k
+-- ---- What channel c observes
 
 -- an answer, or of a tick's this channel's: its "frame or none"
-abbrev pub said : ℕ → BoardAnswer → Answer
-said c (one a) = a
-said c (each f g h k) = ofFour c f g h k
+abbrev pub answerFor : ℕ → BoardAnswer → Answer
+answerFor c (one a) = a
+answerFor c (each f g h k) = ofFour c f g h k
 
 -- "for a shared call, the number if refused"; of any other answer nothing is compared
 abbrev pub shared : Answer → Answer
 shared a = cond (isRefusal a) a ans.done
 
+-- the word of a register read
 abbrev pub valueOf : Answer → ℕ
 valueOf (ans.refused k) = 0
 valueOf ans.done = 0
@@ -124,17 +118,17 @@ observeRead c nothing a = []
 
 -- "for a call naming the channel, the answer, be it a refusal's number or a part's words in order"
 abbrev pub observe : ℕ → Call → BoardAnswer → List Answer
-observe c (writeRegister address value) s = observeWrite c (named address) (said c s)
-observe c (readRegister address) s = observeRead c (named address) (said c s)
-observe c (writeSetpoint number user buffer index word) s = only (eqb number c) (said c s)
-observe c (arm number) s = only (eqb number c) (said c s)
-observe c (disarm number) s = only (eqb number c) (said c s)
-observe c (reply number frame) s = only (eqb number c) (said c s)
-observe c (retired number) s = only (eqb number c) (said c s)
-observe c (retiredLength number) s = only (eqb number c) (said c s)
-observe c tick s = said c s ∷ []
-observe c (event code) s = shared (said c s) ∷ []
-observe c (changeUser user) s = shared (said c s) ∷ []
+observe c (writeRegister address value) s = observeWrite c (named address) (answerFor c s)
+observe c (readRegister address) s = observeRead c (named address) (answerFor c s)
+observe c (writeSetpoint number user buffer index word) s = only (eqb number c) (answerFor c s)
+observe c (arm number) s = only (eqb number c) (answerFor c s)
+observe c (disarm number) s = only (eqb number c) (answerFor c s)
+observe c (reply number frame) s = only (eqb number c) (answerFor c s)
+observe c (retired number) s = only (eqb number c) (answerFor c s)
+observe c (retiredLength number) s = only (eqb number c) (answerFor c s)
+observe c tick s = answerFor c s ∷ []
+observe c (event code) s = shared (answerFor c s) ∷ []
+observe c (changeUser user) s = shared (answerFor c s) ∷ []
 observe c interruptLevel s = []
 
 -- ---- What of the world is channel c's: all that the one-channel definition holds

@@ -1,4 +1,4 @@
--- Demand 3, "each channel behaves as it would alone": the claim, by document 01, 'What holds it to this', and what stands beside it.
+-- Document 01, 'What holds it to this': demand 3, "each channel behaves as it would alone". The claim, and what stands beside it.
 -- Proofs: Isolation and FedTheSame in proofs/Isolation.antt, IsolationShown and NotVacuous in Shown, DefaultsUnused in Defaults, the others in Refused and Others.
 use Prim.Native.Nat.{ℕ, _+_, _*_, _<_, _≤_}
 use mathlib.Core.Path.{_≡_}
@@ -14,20 +14,20 @@ use Rattle.histories.specs.Ranges.{InRange}
 use Rattle.board_state.specs.declared.Board.{Board}
 use Rattle.board_state.specs.State.{channelAt}
 use Rattle.board_state.specs.Main.{mainStatus}
-use Rattle.board.specs.Parts.{own}
+use Rattle.board_state.specs.Parts.{own}
 use Rattle.board.specs.Calls.{openAnswer, readAnswer}
 use Rattle.board.specs.Worlds.{World}
-use Rattle.isolation.specs.Calls.{Call, writeSetpoint, tick, Lent, words, buffers, Item, after, left, refused, ownBuffers, step, Fits, Allowed, last, opening}
+use Rattle.isolation.specs.Calls.{Call, writeSetpoint, tick, Lent, words, buffers, Item, after, lentAfter, refused, ownBuffers, step, Fits, Allowed, worldAfter, opening}
 use Rattle.isolation.specs.Feeding.{names, feeds, fed, observes, view}
 
 -- one channel by itself, opened with the same depths and its own part of the words
 abbrev pub oneChannelAt : ℕ → ℕ → ℕ → List ℕ → List ℕ → OneChannel
 oneChannelAt c n m setpoints readbacks = oneChannel n m (own setpoints (n * 16) c) (own readbacks (m * 2) c)
 
--- along a list: what channel c hears is what the one-channel definition says, fed what c is fed; and it ends as that does
+-- along a list: what channel c observes is what the one-channel definition answers, fed what c is fed; and it ends as that does
 pub record MatchesOneChannel (c : ℕ) (w : World) (xs : List Item) (o : OneChannel) : Type 0 where
   pub observed : observes c w xs ≡ responses o (fed c xs)
-  pub ends : view c (last w xs) ≡ transitions o (fed c xs)
+  pub ends : view c (worldAfter w xs) ≡ transitions o (fed c xs)
 
 -- THE CLAIM. "It is one claim about the whole list of calls, not one for each call." "It starts at an opening that wasn't refused."
 abbrev pub Isolation : Type 0
@@ -63,14 +63,14 @@ IsolationShown =
     → openAnswer n m (length s) (length r) ≡ ans.done
     → (c : ℕ) → 1 ≤ c → c ≤ 4
     → (xs : List Item) → Allowed (opening n m s r) xs
-    → Shows n m c (last (opening n m s r) xs) (transitions (oneChannelAt c n m s r) (fed c xs))
+    → Shows n m c (worldAfter (opening n m s r) xs) (transitions (oneChannelAt c n m s r) (fed c xs))
 
 -- ---- Beside it
 
 -- a refused call changes no state and no lent word: on any board, lent anything
 abbrev pub RefusedChangesNothing : Type 0
 RefusedChangesNothing =
-    (b : Board) (x : Call) (l : Lent) → refused b x l ≡ true → (after b x l ≡ b) × (left b x l ≡ l)
+    (b : Board) (x : Call) (l : Lent) → refused b x l ≡ true → (after b x l ≡ b) × (lentAfter b x l ≡ l)
 
 -- a call naming d changes nothing that another channel can see: in any world
 abbrev pub OthersUntouched : Type 0
@@ -95,7 +95,7 @@ FedTheSame =
     → (xs ys : List Item) → Allowed (opening n m s r) xs → Allowed (opening n m s' r') ys
     → fed c xs ≡ fed c ys
     → (observes c (opening n m s r) xs ≡ observes c (opening n m s' r') ys)
-    × (view c (last (opening n m s r) xs) ≡ view c (last (opening n m s' r') ys))
+    × (view c (worldAfter (opening n m s r) xs) ≡ view c (worldAfter (opening n m s' r') ys))
 
 -- the defaults of the total definitions are never used: from an opening, over any allowed list, each channel's indices, counts, countdowns and
 -- arrays are in their ranges (`InRange`: index due below N, stored counts at most M, user 1 to 8, a running countdown at least 1, ..)
@@ -105,7 +105,7 @@ DefaultsUnused =
     → openAnswer n m (length s) (length r) ≡ ans.done
     → (c : ℕ) → 1 ≤ c → c ≤ 4
     → (xs : List Item) → Allowed (opening n m s r) xs
-    → InRange (view c (last (opening n m s r) xs))
+    → InRange (view c (worldAfter (opening n m s r) xs))
 
 -- there are such lists: a setpoint write to channel 5, which is lent any words at all and refused, then a tick, which is not
 abbrev pub astray : List ℕ → Item

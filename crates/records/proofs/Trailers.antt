@@ -1,20 +1,15 @@
 -- What a file that is not refused shows of its trailer, and which part of it the reader hands back. Assumes nothing.
 use Prim.Native.Nat.{ℕ, _+_, _-_, _*_, _≤_}
-use mathlib.Core.Path.{_≡_, refl, sym, _∙_}
+use mathlib.Core.Path.{_≡_, refl}
 use mathlib.Core.Bool.{Bool, true, false, cond}
 use mathlib.Core.List.{List, []}
 use native.Mathlib.Omega.{arith}
 use lib.ListN.{length, take, drop}
-use lib.Dec.{eqb, ltb}
-use borrow.Author.Tests.{eqb-true, ltb-false, eq-eqb}
+use lib.Dec.{eqb}
+use borrow.Author.Tests.{eqb-true, ltb-false}
 use Rattle.channel_core.specs.Answers as ans
-use Rattle.channel.proofs.Ranges.{clash, passed}
+use Rattle.channel.proofs.Cases.{clash, passed, let-on}
 use Rattle.records.specs.Files.{distance, count, fileRefusal, recordsPart, recordsLength}
-
--- a chain that comes to 0 where the test holds
-passed-on : (b : Bool) (k x : ℕ) → eqb k 0 ≡ false → cond b x k ≡ 0 → (b ≡ true) × (x ≡ 0)
-passed-on true k x n e = (refl, e)
-passed-on false k x n e = clash (sym n ∙ eq-eqb k 0 e)
 
 pub record Whole (file : List ℕ) : Type 0 where
   pub most : length file ≤ 65536
@@ -27,7 +22,7 @@ unfolding fileRefusal
 whole file e =
     let a = passed _ _ _ refl e in
     let b = passed _ _ _ refl (a .1) in
-    let d = passed-on _ _ _ refl (b .1) in
+    let d = let-on _ _ _ refl (b .1) in
     let f = passed _ _ _ refl (d .1) in
     record {
       most = ltb-false _ _ (a .0);

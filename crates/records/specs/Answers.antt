@@ -1,4 +1,4 @@
--- Which of document 01's numbers and values each case of the reader's answer stands for.
+-- Document 01, 'Run file and log line', and 'Code places and language forms': the number and values of each case of the reader's answer.
 use Rattle.refusal.specs.Refusals.{numberOf}
 use Rattle.channel_core.specs.Answers.{Answer}
 use Rattle.channel_core.specs.Answers as ans

@@ -1,6 +1,6 @@
 -- Document 01, 'Run file and log line': the file, its trailer and the part that holds the records. Bytes are numbers below 256; nothing here wraps.
 use Prim.Native.Nat.{ℕ, _+_, _-_, _*_}
-use mathlib.Core.Bool.{Bool, cond}
+use mathlib.Core.Bool.{cond}
 use mathlib.Core.List.{List, []}
 use lib.ListN.{length, getD, take, drop}
 use lib.Dec.{eqb, ltb}

@@ -1,8 +1,8 @@
 // The run file's reader, and what each of its records asks.
 use refusal::Refusal;
 ghost use mathlib.Core.Path.{_≡_};
-ghost use Prim.Native.Nat.{_+_, _≤_, _<_};
-ghost use lib.ListN.{length, getD};
+ghost use Prim.Native.Nat.{_+_, _<_};
+ghost use lib.ListN.{getD};
 ghost use Rattle.records.specs.Files.{number16, number32, distance, count, recordsPart, recordsLength};
 ghost use Rattle.records.specs.Answers.{bytesOf};
 ghost use Rattle.records.specs.Requests.{requestOf, writeAsked, setpointAsked, eventAsked, ticksAsked, armAsked, askedBy, askedOf};

@@ -1,4 +1,4 @@
--- The number that document 01's table ("Number", "Trade's word", "Condition") gives each refusal. The only place where they stand.
+-- Document 01, 'Calls': the number that its table ("Number", "Trade's word", "Condition") gives each refusal. The only place where they stand.
 use Prim.Native.Nat.{ℕ}
 use Rattle.refusal.specs.declared.Refusal.{Refusal}
 use Rattle.refusal.specs.declared.Refusal.the-variants as refusal

@@ -1,4 +1,4 @@
--- The access of each offset, by document 01, 'Register map': what is in the map, what of it is read-only, what write-only.
+-- Document 01, 'Register map': the access of each offset. What is in the map, what of it is read-only, what write-only.
 use Prim.Native.Nat.{ℕ, _+_, _-_, _*_, _%_}
 use mathlib.Core.Bool.{Bool, false, cond, _&&_, _||_}
 use mathlib.Core.List.{List, [], _∷_}

@@ -1,4 +1,4 @@
--- What an address names, by document 01, 'Register map': Main or a channel (1 to 4), with the offset from its start, or neither.
+-- Document 01, 'Register map': what an address names. Main or a channel (1 to 4), with the offset from its start, or neither.
 use Prim.Native.Nat.{ℕ, _/_, _%_}
 use mathlib.Core.Bool.{cond}
 use lib.Dec.{ltb}
@@ -16,7 +16,7 @@ named address =
     cond (ltb address 0x800) (main address)
     (cond (ltb address 0x2800) (channel (address / 0x800) (address % 0x800)) nothing)
 
--- what each case of `decode_address`'s answer says
+-- what each case of `decode_address`'s answer stands for
 abbrev pub namedOf : Region → Named
 namedOf (region.Main offset) = main offset
 namedOf (region.Channel number offset) = channel number offset

@@ -1,4 +1,5 @@
--- The refusal that an access implies, by document 01's table: 3, "address not in the map"; 4, "write to a read-only register, or read of a write-only one". 0 is no refusal.
+-- Document 01, 'Calls': the refusal that an access implies. 3, "address not in the map below"; 4, "write to a read-only register, or read of a write-only one".
+-- 0 is no refusal.
 use Prim.Native.Nat.{ℕ}
 use Rattle.refusal.specs.declared.Refusal.the-variants as refusal
 use Rattle.refusal.specs.Refusals.{numberOf}
@@ -19,7 +20,7 @@ writeRefusal access.ReadOnly = numberOf refusal.AccessViolation
 writeRefusal access.WriteOnly = 0
 writeRefusal access.ReadWrite = 0
 
--- the number that each case of a verdict says
+-- the number that each case of a verdict stands for
 abbrev pub verdictNumber : Verdict → ℕ
 verdictNumber verdict.Allowed = 0
 verdictNumber (verdict.Refused r) = numberOf r

@@ -21,7 +21,7 @@ pub enum Access {
     ReadWrite,
 }
 
-// The answer to a read or a write that has this access: allowed, or one of refusals 3 and 4.
+// Whether a call is refused. A read or a write by its access: allowed, or refused 3 or 4.
 pub enum Verdict {
     Allowed,
     Refused(Refusal),

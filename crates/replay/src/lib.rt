@@ -1,4 +1,5 @@
 // What one record of a run file does: the board's own calls, and their answers counted.
+use board::Written;
 use board_state::Board;
 use channel::Outcome;
 use records::Request;
@@ -6,6 +7,7 @@ use refusal::Refusal;
 use tally::Counts;
 ghost use mathlib.Core.Path.{_≡_};
 ghost use lib.ListN.{length};
+ghost use Rattle.channel.specs.Answers.{outcomeOf};
 ghost use Rattle.board.specs.Answers.{one};
 ghost use Rattle.board.specs.Calls.{writeBoard, writeAnswer, writeWords, readBoard, readAnswer, setpointAnswer, setpointWords, armBoard, disarmBoard, armAnswer, replyBoard, replyAnswer, replyWords, tickBoard, tickBoardAnswer, eventBoard, eventAnswer, eventWords, userBoard, userAnswer};
 ghost use Rattle.records.specs.Requests.{requestOf};
@@ -19,18 +21,27 @@ pub struct RunState {
     pub counts: Counts,
 }
 
-fn write(s: RunState, readbacks: &mut [u32], address: u32, value: u16) -> RunState
-    ensures { λ r. ⌜ (r .board ≡ writeBoard (s .board) (length (now (readbacks .entry))) address value) × (r .counts ≡ tally (s .counts) (one (writeAnswer (s .board) (length (now (readbacks .entry))) address value))) × (now (readbacks .exit) ≡ writeWords (s .board) (now (readbacks .entry)) address value) ⌝ }
+// The board after a call, and its answer counted.
+fn counted(c: Counts, w: Written) -> RunState
+    ensures { λ r. ⌜ (r .board ≡ w .board) × (r .counts ≡ tally c (one (outcomeOf (w .outcome)))) ⌝ }
 {
-    let b = s.board;
-    let c = s.counts;
-    let w = board_registers::write_register(b, readbacks, address, value);
     let board = w.board;
     let outcome = w.outcome;
     RunState {
         board: board,
         counts: c.outcome(outcome),
     }
+}
+
+fn write(s: RunState, readbacks: &mut [u32], address: u32, value: u16) -> RunState
+    ensures { λ r. ⌜ (r .board ≡ writeBoard (s .board) (length (now (readbacks .entry))) address value) × (r .counts ≡ tally (s .counts) (one (writeAnswer (s .board) (length (now (readbacks .entry))) address value))) × (now (readbacks .exit) ≡ writeWords (s .board) (now (readbacks .entry)) address value) ⌝ }
+{
+    let b = s.board;
+    let c = s.counts;
+    counted(
+        c,
+        board_registers::write_register(b, readbacks, address, value),
+    )
 }
 
 fn read(s: RunState, address: u32) -> RunState
@@ -72,13 +83,7 @@ fn event(s: RunState, readbacks: &mut [u32], code: u8) -> RunState
 {
     let b = s.board;
     let c = s.counts;
-    let w = board::event(b, readbacks, code);
-    let board = w.board;
-    let outcome = w.outcome;
-    RunState {
-        board: board,
-        counts: c.outcome(outcome),
-    }
+    counted(c, board::event(b, readbacks, code))
 }
 
 fn reply(s: RunState, readbacks: &mut [u32], number: u32, frame: u64) -> RunState
@@ -100,13 +105,7 @@ fn user(s: RunState, user: u32) -> RunState
 {
     let b = s.board;
     let c = s.counts;
-    let w = board::change_user(b, user);
-    let board = w.board;
-    let outcome = w.outcome;
-    RunState {
-        board: board,
-        counts: c.outcome(outcome),
-    }
+    counted(c, board::change_user(b, user))
 }
 
 fn arm(s: RunState, number: u32) -> RunState
@@ -114,13 +113,7 @@ fn arm(s: RunState, number: u32) -> RunState
 {
     let b = s.board;
     let c = s.counts;
-    let w = board::arm(b, number);
-    let board = w.board;
-    let outcome = w.outcome;
-    RunState {
-        board: board,
-        counts: c.outcome(outcome),
-    }
+    counted(c, board::arm(b, number))
 }
 
 fn disarm(s: RunState, number: u32) -> RunState
@@ -128,13 +121,7 @@ fn disarm(s: RunState, number: u32) -> RunState
 {
     let b = s.board;
     let c = s.counts;
-    let w = board::disarm(b, number);
-    let board = w.board;
-    let outcome = w.outcome;
-    RunState {
-        board: board,
-        counts: c.outcome(outcome),
-    }
+    counted(c, board::disarm(b, number))
 }
 
 fn tick(s: RunState, setpoints: &[u32]) -> RunState

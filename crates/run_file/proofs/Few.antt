@@ -1,11 +1,12 @@
 -- A record makes at most 10,000 calls, so no count of a run comes near its type's end. Assumes nothing.
 use Prim.Native.Nat.{ℕ, zero, suc, _+_, _*_, _/_, _%_, _≤_}
 use mathlib.Core.Path.{_≡_, refl}
-use mathlib.Core.Bool.{Bool, true, false, cond, _||_}
-use mathlib.Core.List.{List, [], _∷_, _++_}
+use mathlib.Core.Bool.{_||_}
+use mathlib.Core.List.{List}
 use native.Mathlib.Omega.{arith}
 use lib.ListN.{length, getD, take, drop, length-append}
 use lib.Dec.{eqb, ltb}
+use Rattle.channel.proofs.Cases.{either, by-test}
 use Rattle.channel.proofs.Ranges.{inside}
 use Rattle.board_state.specs.declared.Board.{Board}
 use Rattle.records.specs.Files.{number16, number32}
@@ -13,7 +14,7 @@ use Rattle.records.specs.Requests.{Asked, ticksAsked, askedBy, askedOf}
 use Rattle.records.specs.Requests as asked
 use Rattle.board.specs.Worlds.{World}
 use Rattle.replay.specs.Worlds.{tickAnswers, answers}
-use Rattle.run_file.specs.Runs.{askedAt, worldAfter, answersAlong}
+use Rattle.run_file.specs.Runs.{worldAfter, answersAlong}
 
 -- what a record can ask. "5 b ticks (1–10,000)"
 data Few : Asked → Type 0 where
@@ -28,28 +29,20 @@ data Few : Asked → Type 0 where
   disarm : (number : ℕ) → Few (asked.disarm number)
   bad : Few asked.bad
 
-either : (t : Bool) (x y : Asked) → Few x → Few y → Few (cond t x y)
-either true x y p q = p
-either false x y p q = q
-
 ticks-few : (b : ℕ) → Few (ticksAsked b)
-ticks-few b = go (ltb b 1 || ltb 10000 b) refl
-  where
-    go : (t : Bool) → (ltb b 1 || ltb 10000 b) ≡ t → Few (cond t asked.bad (asked.ticks b))
-    go true e = bad
-    go false e = ticks b (inside 1 10000 b e .1)
+ticks-few b = by-test Few (ltb b 1 || ltb 10000 b) (λ e. bad) (λ e. ticks b (inside 1 10000 b e .1))
 
 by-fields : (kind number a b : ℕ) → Few (askedBy kind number a b)
 unfolding askedBy
 by-fields kind number a b =
-    either (eqb kind 1) _ _ (either (ltb 65535 b) _ _ bad (write a b))
-    (either (eqb kind 2) _ _ (read a)
-    (either (eqb kind 3) _ _ (either (ltb 255 a) _ _ bad (setpoint number (a / 32 + 1) (a / 16 % 2 + 1) (a % 16) b))
-    (either (eqb kind 4) _ _ (either (ltb 255 b) _ _ bad (event b))
-    (either (eqb kind 5) _ _ (ticks-few b)
-    (either (eqb kind 6) _ _ (reply number (a * 4294967296 + b))
-    (either (eqb kind 7) _ _ (user b)
-    (either (eqb kind 8) _ _ (either (eqb b 1) _ _ (arm number) (either (eqb b 0) _ _ (disarm number) bad)) bad)))))))
+    either Few (eqb kind 1) (either Few (ltb 65535 b) bad (write a b))
+    (either Few (eqb kind 2) (read a)
+    (either Few (eqb kind 3) (either Few (ltb 255 a) bad (setpoint number (a / 32 + 1) (a / 16 % 2 + 1) (a % 16) b))
+    (either Few (eqb kind 4) (either Few (ltb 255 b) bad (event b))
+    (either Few (eqb kind 5) (ticks-few b)
+    (either Few (eqb kind 6) (reply number (a * 4294967296 + b))
+    (either Few (eqb kind 7) (user b)
+    (either Few (eqb kind 8) (either Few (eqb b 1) (arm number) (either Few (eqb b 0) (disarm number) bad)) bad)))))))
 
 asks-few : (s : List ℕ) → Few (askedOf s)
 unfolding askedOf

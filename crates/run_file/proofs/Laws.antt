@@ -9,12 +9,13 @@ use lib.ListN.{length, length-append}
 use lib.Dec.{eqb}
 use borrow.Author.Tests.{lt-ltb, eqb-true}
 use Rattle.status.specs.Bits.{bitOf}
+use Rattle.status.proofs.Words.{bit-small}
 use Rattle.board.specs.Answers.{BoardAnswer, refuses}
 use Rattle.records.specs.Files.{count, fileRefusal, recordsPart}
-use Rattle.channel.proofs.Ranges.{clash}
+use Rattle.channel.proofs.Cases.{clash}
 use Rattle.records.proofs.Trailers.{whole}
 use Rattle.tally.specs.declared.Counts.{Counts}
-use Rattle.tally.specs.Tallies.{nothingYet, more, firstSends, secondSends, thirdSends, fourthSends, tally, tallies, stepped}
+use Rattle.tally.specs.Tallies.{nothingYet, more, sends, tally, tallies, stepped}
 use Rattle.tally.specs.Answers.{counted, refused}
 use Rattle.board.specs.Worlds.{World}
 use Rattle.replay.specs.Worlds.{answers}
@@ -31,14 +32,10 @@ unfolding howMany
 many-append test [] ys = omega arith
 many-append test (x ∷ xs) ys = rw (many-append test xs ys) (omega arith)
 
-pub small : (b : Bool) → bitOf b ≤ 1
-small true = omega arith
-small false = omega arith
-
 pub many-le : {A : Type 0} (test : A → Bool) (xs : List A) → howMany test xs ≤ length xs
 unfolding howMany
 many-le test [] = omega arith
-many-le test (x ∷ xs) = let e = many-le test xs in omega (arith, small (test x))
+many-le test (x ∷ xs) = let e = many-le test xs in omega (arith, bit-small (test x))
 
 -- one count, with the test that it counts by
 module _ (get : Counts → ℕ) (test : BoardAnswer → Bool) (tallied : (c : Counts) (x : BoardAnswer) → get (tally c x) ≡ more (test x) (get c))
@@ -46,7 +43,7 @@ module _ (get : Counts → ℕ) (test : BoardAnswer → Bool) (tallied : (c : Co
   drawn-list : (c : Counts) (xs : List BoardAnswer) → get c + length xs ≤ 4294967295 → get (tallies c xs) ≡ get c + howMany test xs
   unfolding tallies howMany
   drawn-list c [] h = omega arith
-  drawn-list c (x ∷ xs) h = drawn-list (tally c x) xs (rw e (omega (arith, small (test x)))) ∙ rw e (omega arith)
+  drawn-list c (x ∷ xs) h = drawn-list (tally c x) xs (rw e (omega (arith, bit-small (test x)))) ∙ rw e (omega arith)
     where
       e : get (tally c x) ≡ bitOf (test x) + get c
       e = tallied c x ∙ more-is (test x) (get c) (omega arith)
@@ -87,10 +84,10 @@ drawn file e =
     record {
       steps = steps-are start (recordsPart file) (count file) (omega arith);
       refused = drawn-along (λ c. c .refused) refuses (λ c x. refl) (λ c. refl) start (recordsPart file) (count file) refl h;
-      first = drawn-along (λ c. c .first) firstSends (λ c x. refl) (λ c. refl) start (recordsPart file) (count file) refl h;
-      second = drawn-along (λ c. c .second) secondSends (λ c x. refl) (λ c. refl) start (recordsPart file) (count file) refl h;
-      third = drawn-along (λ c. c .third) thirdSends (λ c x. refl) (λ c. refl) start (recordsPart file) (count file) refl h;
-      fourth = drawn-along (λ c. c .fourth) fourthSends (λ c x. refl) (λ c. refl) start (recordsPart file) (count file) refl h;
+      first = drawn-along (λ c. c .first) (sends 1) (λ c x. refl) (λ c. refl) start (recordsPart file) (count file) refl h;
+      second = drawn-along (λ c. c .second) (sends 2) (λ c x. refl) (λ c. refl) start (recordsPart file) (count file) refl h;
+      third = drawn-along (λ c. c .third) (sends 3) (λ c x. refl) (λ c. refl) start (recordsPart file) (count file) refl h;
+      fourth = drawn-along (λ c. c .fourth) (sends 4) (λ c x. refl) (λ c. refl) start (recordsPart file) (count file) refl h;
     }
 
 -- of what `run` answers

@@ -10,7 +10,7 @@ use borrow.Author.Tests.{eqb-true}
 use Rattle.board.specs.Answers.{BoardAnswer, refuses}
 use Rattle.records.specs.Files.{count, distance, fileRefusal, recordsPart}
 use Rattle.records.proofs.Trailers.{whole}
-use Rattle.tally.specs.Tallies.{firstSends, secondSends, thirdSends, fourthSends}
+use Rattle.tally.specs.Tallies.{sends}
 use Rattle.tally.specs.Answers.{counted, refused}
 use Rattle.log_line.specs.Numerals.{SmallCounts, Small}
 use Rattle.log_line.proofs.Reading.{line-tells}
@@ -34,10 +34,10 @@ module _ (file : List ℕ) (e : fileRefusal file ≡ 0) where
       record {
         steps = let s = d .steps in omega arith;
         refused = many-small refuses (d .refused);
-        first = many-small firstSends (d .first);
-        second = many-small secondSends (d .second);
-        third = many-small thirdSends (d .third);
-        fourth = many-small fourthSends (d .fourth);
+        first = many-small (sends 1) (d .first);
+        second = many-small (sends 2) (d .second);
+        third = many-small (sends 3) (d .third);
+        fourth = many-small (sends 4) (d .fourth);
       }
 
 either : (t : Bool) (x y : ℕ) → x ≤ 8 → y ≤ 8 → cond t x y ≤ 8

@@ -1,5 +1,5 @@
 -- One more record is the definition's next; and how many records the part of an accepted file holds. Assumes nothing.
-use Prim.Native.Nat.{ℕ, _+_, _-_, _*_, _/_}
+use Prim.Native.Nat.{ℕ, _+_, _*_, _/_}
 use mathlib.Core.Path.{_≡_, refl, ap}
 use mathlib.Core.Bool.{Bool, true, false, cond}
 use mathlib.Core.List.{List}
@@ -7,15 +7,14 @@ use native.Mathlib.Numerals.{add-one}
 use native.Mathlib.Omega.{arith}
 use lib.ListN.{length, length-take, length-drop}
 use lib.Dec.{eqb}
-use borrow.Author.Tests.{eqb-true, eq-eqb}
 use Rattle.channel_core.specs.Answers as ans
-use Rattle.channel.proofs.Ranges.{clash}
+use Rattle.channel.proofs.Cases.{clash}
 use Rattle.tally.specs.Answers.{counted, refused}
 use Rattle.tally.specs.declared.Counts.{Counts}
 use Rattle.tally.specs.Tallies.{tallies, stepped}
 use Rattle.board.specs.Worlds.{World}
 use Rattle.replay.specs.Worlds.{after, answers}
-use Rattle.records.specs.Files.{count, distance, fileRefusal, recordsPart, recordsLength}
+use Rattle.records.specs.Files.{count, fileRefusal, recordsPart, recordsLength}
 use Rattle.records.proofs.Trailers.{whole, accepted}
 use Rattle.run_file.specs.Runs.{start, askedAt, worldAfter, countsAfter, runOf}
 

@@ -8,7 +8,7 @@ use Rattle.status.specs.Bits.{bitOf}
 use Rattle.board.specs.Answers.{BoardAnswer, refuses}
 use Rattle.records.specs.Files.{count, recordsPart}
 use Rattle.tally.specs.declared.Counts.{Counts}
-use Rattle.tally.specs.Tallies.{firstSends, secondSends, thirdSends, fourthSends}
+use Rattle.tally.specs.Tallies.{sends}
 use Rattle.run_file.specs.Runs.{start, answersAlong, runOf, runLine}
 
 -- how many answers pass a test
@@ -24,10 +24,10 @@ answersOf file = answersAlong start (recordsPart file) (count file)
 pub record Drawn (file : List ℕ) (c : Counts) : Type 0 where
   pub steps : c .steps ≡ count file
   pub refused : c .refused ≡ howMany refuses (answersOf file)
-  pub first : c .first ≡ howMany firstSends (answersOf file)
-  pub second : c .second ≡ howMany secondSends (answersOf file)
-  pub third : c .third ≡ howMany thirdSends (answersOf file)
-  pub fourth : c .fourth ≡ howMany fourthSends (answersOf file)
+  pub first : c .first ≡ howMany (sends 1) (answersOf file)
+  pub second : c .second ≡ howMany (sends 2) (answersOf file)
+  pub third : c .third ≡ howMany (sends 3) (answersOf file)
+  pub fourth : c .fourth ≡ howMany (sends 4) (answersOf file)
 
 -- two files that print the same line ran alike: the six counts, or refused
 abbrev pub RunLineTells : Type 0

@@ -22,17 +22,14 @@ use Rattle.channel.specs.OneChannel.{userRefusal}
 use Rattle.board_state.specs.declared.Board.{Board}
 use Rattle.board_state.specs.State.{channelAt}
 use Rattle.board_state.specs.Main.{mainValue}
-use Rattle.board.specs.Answers.{BoardAnswer, one, each}
+use Rattle.board.specs.Answers.{BoardAnswer, one, each, ofFour}
 use Rattle.board.specs.Calls.{noChannel, setpointsFit, readbacksFit, readAnswerAt, writeAnswerAt}
 use Rattle.board.specs.Calls as calls
 use Rattle.isolation.specs.Calls.{Call, writeRegister, readRegister, writeSetpoint, arm, disarm, reply, retired, retiredLength, tick, event, changeUser, interruptLevel, Lent, first, second, answer}
-use Rattle.isolation.specs.Feeding.{only, ofFour, said, shared, sharedRead, observeWrite, observeRead, observe}
-use Rattle.isolation.proofs.Cases.{cond-case}
+use Rattle.isolation.specs.Feeding.{only, answerFor, shared, sharedRead, observeWrite, observeRead, observe}
+use Rattle.channel.proofs.Cases.{by-test}
+use Rattle.tally.specs.Tallies.{sends}
 use Rattle.run_file.specs.Laws.{howMany}
-
--- whether an answer is a tick's with a frame of channel c
-abbrev pub sends : ℕ → BoardAnswer → Bool
-sends c = elim [ one a ↦ false | each f g h k ↦ isFrame (ofFour c f g h k) ]
 
 -- no frame
 record Quiet (a : Answer) : Type 0 where
@@ -41,7 +38,7 @@ record Quiet (a : Answer) : Type 0 where
 -- ---- Answers
 
 unless-quiet : (k : ℕ) (a : Answer) → Quiet a → Quiet (unless k a)
-unless-quiet k a q = cond-case Quiet (eqb k 0) (λ t. q) (λ t. record { quiet = refl })
+unless-quiet k a q = by-test Quiet (eqb k 0) (λ t. q) (λ t. record { quiet = refl })
 
 receipt-quiet : (d : Disposition) → Quiet (receiptAnswer d)
 receipt-quiet disposition.Unsolicited = record { quiet = refl }
@@ -68,20 +65,20 @@ module _ (b : Board) where
   setpoint-quiet : (k d u f i : ℕ) → Quiet (calls.setpointAnswer b k d u f i)
   unfolding calls.setpointAnswer chn.setpointAnswer
   setpoint-quiet k d u f i =
-      cond-case Quiet (setpointsFit b k)
-      (λ t. cond-case Quiet (noChannel d) (λ t. record { quiet = refl }) (λ t. unless-quiet (chn.setpointRefusal (channelAt b d) (b .n) u f i) ans.done (record { quiet = refl })))
+      by-test Quiet (setpointsFit b k)
+      (λ t. by-test Quiet (noChannel d) (λ t. record { quiet = refl }) (λ t. unless-quiet (chn.setpointRefusal (channelAt b d) (b .n) u f i) ans.done (record { quiet = refl })))
       (λ t. record { quiet = refl })
 
   reply-quiet : (k d f : ℕ) → Quiet (calls.replyAnswer b k d f)
   unfolding calls.replyAnswer replyAnswer
   reply-quiet k d f =
-      cond-case Quiet (readbacksFit b k)
-      (λ t. cond-case Quiet (noChannel d) (λ t. record { quiet = refl }) (λ t. reading-quiet (read f) (channelAt b d) (b .m)))
+      by-test Quiet (readbacksFit b k)
+      (λ t. by-test Quiet (noChannel d) (λ t. record { quiet = refl }) (λ t. reading-quiet (read f) (channelAt b d) (b .m)))
       (λ t. record { quiet = refl })
 
 arm-quiet : (d : ℕ) → Quiet (calls.armAnswer d)
 unfolding calls.armAnswer
-arm-quiet d = cond-case Quiet (noChannel d) (λ t. record { quiet = refl }) (λ t. record { quiet = refl })
+arm-quiet d = by-test Quiet (noChannel d) (λ t. record { quiet = refl }) (λ t. record { quiet = refl })
 
 -- ---- What is observed of them
 
@@ -91,7 +88,7 @@ only-quiet true a q = rw (q .quiet)
 only-quiet false a q = refl
 
 shared-quiet : (a : Answer) → Quiet a → howMany isFrame (shared a ∷ []) ≡ 0
-shared-quiet a q = only-quiet true (shared a) (cond-case Quiet (isRefusal a) (λ t. q) (λ t. record { quiet = refl }))
+shared-quiet a q = only-quiet true (shared a) (by-test Quiet (isRefusal a) (λ t. q) (λ t. record { quiet = refl }))
 
 observed-write : (c : ℕ) (n : Named) (a : Answer) → Quiet a → howMany isFrame (observeWrite c n a) ≡ 0
 unfolding howMany
@@ -103,25 +100,25 @@ observed-read : (c : ℕ) (n : Named) (a : Answer) → Quiet a → howMany isFra
 unfolding howMany
 observed-read c (main o) a q =
     only-quiet true (sharedRead c o a)
-    (cond-case Quiet (isRefusal a) (λ t. q) (λ t. cond-case Quiet (eqb o 0x28 || eqb o 0x2a) (λ t. record { quiet = refl }) (λ t. record { quiet = refl })))
+    (by-test Quiet (isRefusal a) (λ t. q) (λ t. by-test Quiet (eqb o 0x28 || eqb o 0x2a) (λ t. record { quiet = refl }) (λ t. record { quiet = refl })))
 observed-read c (channel d o) a q = only-quiet (eqb d c) a q
 observed-read c nothing a q = refl
 
-pub heard : (c : ℕ) (b : Board) (x : Call) (l : Lent) → howMany isFrame (observe c x (answer b x l)) ≡ howMany (sends c) (answer b x l ∷ [])
+pub frames-observed : (c : ℕ) (b : Board) (x : Call) (l : Lent) → howMany isFrame (observe c x (answer b x l)) ≡ howMany (sends c) (answer b x l ∷ [])
 unfolding howMany answer calls.writeAnswer calls.readAnswer calls.retiredAnswer calls.retiredLength calls.tickBoardAnswer calls.eventAnswer calls.userAnswer
-heard c b (writeRegister a v) l =
-    observed-write c (named a) _ (cond-case Quiet (readbacksFit b (length (first l))) (λ t. write-at b (named a) v) (λ t. record { quiet = refl }))
-heard c b (readRegister a) l = observed-read c (named a) _ (read-at b (named a))
-heard c b (writeSetpoint d u f i y) l = only-quiet (eqb d c) _ (setpoint-quiet b (length (first l)) d u f i)
-heard c b (arm d) l = only-quiet (eqb d c) _ (arm-quiet d)
-heard c b (disarm d) l = only-quiet (eqb d c) _ (arm-quiet d)
-heard c b (reply d y) l = only-quiet (eqb d c) _ (reply-quiet b (length (first l)) d y)
-heard c b (retired d) l = only-quiet (eqb d c) _ (unless-quiet (calls.retiredRefusal b d (length (first l)) (length (second l))) (ans.part (calls.retiredWords b d (first l) (second l))) (record { quiet = refl }))
-heard c b (retiredLength d) l = only-quiet (eqb d c) _ (unless-quiet (calls.retiredRefusal b d (length (first l)) (length (second l))) (ans.partLength (length (calls.retiredWords b d (first l) (second l)))) (record { quiet = refl }))
-heard c b tick l =
-    cond-case (λ (s : BoardAnswer). howMany isFrame (said c s ∷ []) ≡ howMany (sends c) (s ∷ []))
+frames-observed c b (writeRegister a v) l =
+    observed-write c (named a) _ (by-test Quiet (readbacksFit b (length (first l))) (λ t. write-at b (named a) v) (λ t. record { quiet = refl }))
+frames-observed c b (readRegister a) l = observed-read c (named a) _ (read-at b (named a))
+frames-observed c b (writeSetpoint d u f i y) l = only-quiet (eqb d c) _ (setpoint-quiet b (length (first l)) d u f i)
+frames-observed c b (arm d) l = only-quiet (eqb d c) _ (arm-quiet d)
+frames-observed c b (disarm d) l = only-quiet (eqb d c) _ (arm-quiet d)
+frames-observed c b (reply d y) l = only-quiet (eqb d c) _ (reply-quiet b (length (first l)) d y)
+frames-observed c b (retired d) l = only-quiet (eqb d c) _ (unless-quiet (calls.retiredRefusal b d (length (first l)) (length (second l))) (ans.part (calls.retiredWords b d (first l) (second l))) (record { quiet = refl }))
+frames-observed c b (retiredLength d) l = only-quiet (eqb d c) _ (unless-quiet (calls.retiredRefusal b d (length (first l)) (length (second l))) (ans.partLength (length (calls.retiredWords b d (first l) (second l)))) (record { quiet = refl }))
+frames-observed c b tick l =
+    by-test (λ (s : BoardAnswer). howMany isFrame (answerFor c s ∷ []) ≡ howMany (sends c) (s ∷ []))
     (setpointsFit b (length (first l))) (λ t. refl) (λ t. refl)
-heard c b (event y) l =
-    shared-quiet _ (cond-case Quiet (readbacksFit b (length (first l))) (λ t. record { quiet = refl }) (λ t. record { quiet = refl }))
-heard c b (changeUser u) l = shared-quiet _ (unless-quiet (userRefusal u) ans.done (record { quiet = refl }))
-heard c b interruptLevel l = refl
+frames-observed c b (event y) l =
+    shared-quiet _ (by-test Quiet (readbacksFit b (length (first l))) (λ t. record { quiet = refl }) (λ t. record { quiet = refl }))
+frames-observed c b (changeUser u) l = shared-quiet _ (unless-quiet (userRefusal u) ans.done (record { quiet = refl }))
+frames-observed c b interruptLevel l = refl

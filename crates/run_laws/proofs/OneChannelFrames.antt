@@ -7,11 +7,12 @@ use lib.ListN.{take, drop, replicate, length-replicate, replicate-append-replica
 use lib.Seq.{take-at, drop-at}
 use Rattle.channel_core.specs.Answers.{isFrame}
 use Rattle.channel.specs.OneChannel.{OneChannel, oneChannel, responses}
+use Rattle.board.specs.Answers.{ofFour}
 use Rattle.board.specs.Calls.{tickBoardAnswer}
 use Rattle.board.specs.Worlds.{World}
 use Rattle.isolation.specs.Calls.{Call, writeRegister, readRegister, writeSetpoint, arm, disarm, reply, tick, event, changeUser, given, step, Allowed, opening}
 use Rattle.isolation.specs.Calls as calls
-use Rattle.isolation.specs.Feeding.{ofFour, fed, observe, observes}
+use Rattle.isolation.specs.Feeding.{fed, observe, observes}
 use Rattle.isolation.proofs.Parts.{Number}
 use Rattle.isolation.proofs.Cases.{of-four}
 use Rattle.isolation.proofs.Worlds.{plain}
@@ -22,12 +23,13 @@ use Rattle.records.specs.Requests as asked
 use Rattle.tally.specs.declared.Counts.{Counts}
 use Rattle.tally.specs.Answers.{counted}
 use Rattle.replay.specs.Worlds.{tickAnswers, answers}
+use Rattle.tally.specs.Tallies.{sends}
 use Rattle.run_file.specs.Runs.{start, askedAt, worldAfter, answersAlong, runOf}
 use Rattle.run_file.specs.Laws.{howMany, answersOf, Drawn}
 use Rattle.run_file.proofs.Laws.{many-append, run-drawn}
 use Rattle.run_laws.specs.OneChannelFrames.{callsOf, callsAlong, lent, lending, itemsOf, framesOfChannel, zeroedChannel, OneChannelFrames}
 use Rattle.run_laws.proofs.Runs.{answers-first, played, step-lent, allowed, played-along, start-opens, not-refused}
-use Rattle.run_laws.proofs.Observed.{sends, heard}
+use Rattle.run_laws.proofs.Observed.{frames-observed}
 
 -- ---- The counts, by a channel's number
 
@@ -36,61 +38,61 @@ drawn-at : (file : List ℕ) (counts : Counts) → Drawn file counts → (c : �
 drawn-at file counts d c h =
     (λ i. ofFour c (d .first i) (d .second i) (d .third i) (d .fourth i)) ∙ of-four (λ (k : ℕ). howMany (sends k) (answersOf file)) c h
 
--- ---- What channel c hears of calls lent the memory
+-- ---- What channel c observing of calls lent the memory
 
 module _ (c : ℕ) where
-  abbrev hears : World → List Call → ℕ
-  hears w xs = howMany isFrame (observes c w (lending w xs))
+  abbrev observing : World → List Call → ℕ
+  observing w xs = howMany isFrame (observes c w (lending w xs))
 
-  hears-append : (w : World) (xs ys : List Call) → hears w (xs ++ ys) ≡ hears w xs + hears (played w xs) ys
+  observing-append : (w : World) (xs ys : List Call) → observing w (xs ++ ys) ≡ observing w xs + observing (played w xs) ys
   unfolding lending howMany
-  hears-append w [] ys = omega arith
-  hears-append w (x ∷ xs) ys =
+  observing-append w [] ys = omega arith
+  observing-append w (x ∷ xs) ys =
       let i = lent w x in
       let o = observe c x (calls.answer (w .board) x (given w x)) in
-      let e = hears-append (step w i) xs ys in
+      let e = observing-append (step w i) xs ys in
       rw (many-append isFrame o (observes c (step w i) (lending (step w i) (xs ++ ys))), many-append isFrame o (observes c (step w i) (lending (step w i) xs)), e)
       (omega arith)
 
-  hears-one : (w : World) (x : Call) → hears w (x ∷ []) ≡ howMany (sends c) (calls.answer (w .board) x (given w x) ∷ [])
+  observing-one : (w : World) (x : Call) → observing w (x ∷ []) ≡ howMany (sends c) (calls.answer (w .board) x (given w x) ∷ [])
   unfolding lending
-  hears-one w x = rw append-nil (heard c (w .board) x (given w x))
+  observing-one w x = rw append-nil (frames-observed c (w .board) x (given w x))
 
-  hears-first : (w : World) (x : Call) (xs : List Call) → hears w (x ∷ xs) ≡ hears w (x ∷ []) + hears (plain w x) xs
+  observing-first : (w : World) (x : Call) (xs : List Call) → observing w (x ∷ xs) ≡ observing w (x ∷ []) + observing (plain w x) xs
   unfolding lending
-  hears-first w x xs =
-      hears-append w (x ∷ []) xs ∙ ap (λ (v : World). hears w (x ∷ []) + hears v xs) (step-lent w x)
+  observing-first w x xs =
+      observing-append w (x ∷ []) xs ∙ ap (λ (v : World). observing w (x ∷ []) + observing v xs) (step-lent w x)
 
-  hears-ticks : (w : World) (k : ℕ) → hears w (replicate k tick) ≡ howMany (sends c) (tickAnswers (w .board) (w .setpoints) k)
+  observing-ticks : (w : World) (k : ℕ) → observing w (replicate k tick) ≡ howMany (sends c) (tickAnswers (w .board) (w .setpoints) k)
   unfolding lending howMany tickAnswers calls.answer calls.after calls.wordsAfter
-  hears-ticks w zero = refl
-  hears-ticks w (suc k) =
-      hears-first w tick (replicate k tick)
-      ∙ ap₂ (λ (m n : ℕ). m + n) (hears-one w tick) (hears-ticks (plain w tick) k)
+  observing-ticks w zero = refl
+  observing-ticks w (suc k) =
+      observing-first w tick (replicate k tick)
+      ∙ ap₂ (λ (m n : ℕ). m + n) (observing-one w tick) (observing-ticks (plain w tick) k)
       ∙ sym (many-append (sends c) (tickBoardAnswer (w .board) (w .setpoints) ∷ []) (tickAnswers (plain w tick .board) (w .setpoints) k))
       ∙ ap (howMany (sends c)) (sym (answers-first (w .board) (w .setpoints) k))
 
-  hears-record : (w : World) (x : Asked) → hears w (callsOf x) ≡ howMany (sends c) (answers w x)
+  observing-record : (w : World) (x : Asked) → observing w (callsOf x) ≡ howMany (sends c) (answers w x)
   unfolding callsOf answers calls.answer lending howMany
-  hears-record w (asked.write address value) = hears-one w (writeRegister address value)
-  hears-record w (asked.read address) = hears-one w (readRegister address)
-  hears-record w (asked.setpoint number user buffer index word) = hears-one w (writeSetpoint number user buffer index word)
-  hears-record w (asked.event code) = hears-one w (event code)
-  hears-record w (asked.ticks k) = hears-ticks w k
-  hears-record w (asked.reply number frame) = hears-one w (reply number frame)
-  hears-record w (asked.user user) = hears-one w (changeUser user)
-  hears-record w (asked.arm number) = hears-one w (arm number)
-  hears-record w (asked.disarm number) = hears-one w (disarm number)
-  hears-record w asked.bad = refl
+  observing-record w (asked.write address value) = observing-one w (writeRegister address value)
+  observing-record w (asked.read address) = observing-one w (readRegister address)
+  observing-record w (asked.setpoint number user buffer index word) = observing-one w (writeSetpoint number user buffer index word)
+  observing-record w (asked.event code) = observing-one w (event code)
+  observing-record w (asked.ticks k) = observing-ticks w k
+  observing-record w (asked.reply number frame) = observing-one w (reply number frame)
+  observing-record w (asked.user user) = observing-one w (changeUser user)
+  observing-record w (asked.arm number) = observing-one w (arm number)
+  observing-record w (asked.disarm number) = observing-one w (disarm number)
+  observing-record w asked.bad = refl
 
-  hears-along : (w : World) (part : List ℕ) (k : ℕ) → hears w (callsAlong part k) ≡ howMany (sends c) (answersAlong w part k)
+  observing-along : (w : World) (part : List ℕ) (k : ℕ) → observing w (callsAlong part k) ≡ howMany (sends c) (answersAlong w part k)
   unfolding callsAlong answersAlong lending howMany
-  hears-along w part zero = refl
-  hears-along w part (suc k) =
-      hears-append w (callsAlong part k) (callsOf (askedAt part k))
-      ∙ ap₂ (λ (m n : ℕ). m + n) (hears-along w part k)
-      (ap (λ (v : World). hears v (callsOf (askedAt part k))) (played-along w part k)
-      ∙ hears-record (worldAfter w part k) (askedAt part k))
+  observing-along w part zero = refl
+  observing-along w part (suc k) =
+      observing-append w (callsAlong part k) (callsOf (askedAt part k))
+      ∙ ap₂ (λ (m n : ℕ). m + n) (observing-along w part k)
+      (ap (λ (v : World). observing v (callsOf (askedAt part k))) (played-along w part k)
+      ∙ observing-record (worldAfter w part k) (askedAt part k))
       ∙ sym (many-append (sends c) (answersAlong w part k) (answers (worldAfter w part k) (askedAt part k)))
 
 -- ---- The zeroed words of a channel
@@ -133,6 +135,6 @@ one-channel-frames file counts e =
       ends = played-along start (recordsPart file) (count file);
       frames = λ c l h.
           drawn-at file counts (run-drawn file counts e) c (record { low = l; high = h })
-          ∙ sym (hears-along c start (recordsPart file) (count file))
+          ∙ sym (observing-along c start (recordsPart file) (count file))
           ∙ frames-by-itself file c l h;
     }

@@ -4,6 +4,7 @@ use mathlib.Core.Path.{_≡_, refl, ap, ap₂, _∙_}
 use mathlib.Core.Bool.{Bool, true, false, _||_}
 use mathlib.Core.List.{List, [], _∷_}
 use native.Mathlib.Omega.{arith}
+use Rattle.status.proofs.Words.{bit-small}
 use Rattle.status.specs.Bits.{bitOf}
 use Rattle.board.specs.Answers.{BoardAnswer, refuses}
 use Rattle.board.specs.Calls.{tickBoardAnswer}
@@ -20,7 +21,7 @@ use Rattle.tally.specs.Answers.{counted}
 use Rattle.replay.specs.Worlds.{tickAnswers, answers}
 use Rattle.run_file.specs.Runs.{start, answersAlong, runOf}
 use Rattle.run_file.specs.Laws.{howMany}
-use Rattle.run_file.proofs.Laws.{many-append, small, run-drawn}
+use Rattle.run_file.proofs.Laws.{many-append, run-drawn}
 use Rattle.run_laws.specs.RefusedRecords.{refusedOne, recordAnswers, refusedRecords, RefusedRecords}
 use Rattle.run_laws.proofs.Runs.{answers-first, good-along, sized-along}
 
@@ -85,7 +86,7 @@ module _ (file : List ℕ) where
   at-most : (k : ℕ) → refusedRecords file k ≤ k
   unfolding refusedRecords
   at-most zero = omega arith
-  at-most (suc k) = let h = at-most k in omega (arith, small (refusedOne (recordAnswers file k)))
+  at-most (suc k) = let h = at-most k in omega (arith, bit-small (refusedOne (recordAnswers file k)))
 
 pub refused-records : (file : List ℕ) (c : Counts) → runOf file ≡ counted c → RefusedRecords file c
 refused-records file c e =
@@ -97,5 +98,5 @@ refused-records file c e =
       both = omega (arith, at-most file (count file));
       sized = sized-along (recordsPart file);
       ticks = λ k b. ticks-done _ (good-along (recordsPart file) k) b;
-      once = λ k. let o = once file k in omega (arith, small (refusedOne (recordAnswers file k)));
+      once = λ k. let o = once file k in omega (arith, bit-small (refusedOne (recordAnswers file k)));
     }

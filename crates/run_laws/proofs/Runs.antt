@@ -10,7 +10,7 @@ use Rattle.board.specs.Answers.{BoardAnswer}
 use Rattle.board_state.specs.State.{opened}
 use Rattle.board.specs.Calls.{openBoard, openAnswer, openRefusal, tickBoard, tickBoardAnswer}
 use Rattle.board.specs.Worlds.{World, world}
-use Rattle.isolation.specs.Calls.{Call, writeRegister, readRegister, arm, disarm, reply, tick, event, changeUser, none, words, step, Allowed, last, opening}
+use Rattle.isolation.specs.Calls.{Call, writeRegister, readRegister, arm, disarm, reply, tick, event, changeUser, none, words, step, Allowed, opening}
 use Rattle.isolation.specs.Calls as calls
 use Rattle.isolation.proofs.Worlds.{Good, plain, step-given}
 use Rattle.isolation.proofs.Shapes.{Shape, same, shape, good-plain}
@@ -39,7 +39,7 @@ answers-first b s (suc k) =
 
 -- the world after them
 abbrev pub played : World → List Call → World
-played w xs = last w (lending w xs)
+played w xs = calls.worldAfter w (lending w xs)
 
 pub step-lent : (w : World) (x : Call) → step w (lent w x) ≡ plain w x
 step-lent w x = step-given w (lent w x) refl

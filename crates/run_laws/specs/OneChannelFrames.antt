@@ -6,9 +6,11 @@ use mathlib.Core.List.{List, [], _∷_, _++_}
 use lib.ListN.{replicate}
 use Rattle.channel_core.specs.Answers.{isFrame}
 use Rattle.channel.specs.OneChannel.{OneChannel, oneChannel, responses}
+use Rattle.board.specs.Answers.{ofFour}
 use Rattle.board.specs.Worlds.{World}
-use Rattle.isolation.specs.Calls.{Call, writeRegister, readRegister, writeSetpoint, arm, disarm, reply, tick, event, changeUser, Item, given, step, Allowed, last, opening}
-use Rattle.isolation.specs.Feeding.{ofFour, fed}
+use Rattle.isolation.specs.Calls.{Call, writeRegister, readRegister, writeSetpoint, arm, disarm, reply, tick, event, changeUser, Item, given, step, Allowed, opening}
+use Rattle.isolation.specs.Calls as calls
+use Rattle.isolation.specs.Feeding.{fed}
 use Rattle.records.specs.Files.{count, recordsPart}
 use Rattle.records.specs.Requests.{Asked}
 use Rattle.records.specs.Requests as asked
@@ -58,6 +60,6 @@ pub record OneChannelFrames (file : List ℕ) (counts : Counts) : Type 0 where
   -- the run starts at an opening, makes a list of calls that demand 3 allows, and ends as that list does
   pub opens : start ≡ opening 16 64 (replicate 1024 0) (replicate 512 0)
   pub allowed : Allowed start (itemsOf file)
-  pub ends : last start (itemsOf file) ≡ worldAfter start (recordsPart file) (count file)
+  pub ends : calls.worldAfter start (itemsOf file) ≡ worldAfter start (recordsPart file) (count file)
   -- the frames of channel c: those that it answers by itself, fed its own calls and the shared ones
   pub frames : (c : ℕ) → 1 ≤ c → c ≤ 4 → framesOfChannel counts c ≡ howMany isFrame (responses zeroedChannel (fed c (itemsOf file)))

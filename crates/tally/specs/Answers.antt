@@ -1,4 +1,5 @@
--- What a run answers, and which of it each case of the answer in the code stands for.
+-- Document 01, 'Run file and log line', and 'Code places and language forms': what a run answers, and the number and values of each case of that answer
+-- in the code.
 use Prim.Native.Nat.{ℕ}
 use Rattle.refusal.specs.Refusals.{numberOf}
 use Rattle.tally.specs.declared.Counts.{Counts}

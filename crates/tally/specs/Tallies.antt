@@ -4,25 +4,13 @@ use mathlib.Core.Bool.{Bool, true, false, cond}
 use mathlib.Core.List.{List, [], _∷_}
 use lib.Dec.{ltb}
 use Rattle.channel_core.specs.Answers.{isFrame}
-use Rattle.board.specs.Answers.{BoardAnswer, one, each, refuses}
+use Rattle.board.specs.Answers.{BoardAnswer, one, each, ofFour, refuses}
 use Rattle.tally.specs.declared.Counts.{Counts}
 
--- whether a tick answered a frame for channel 1, 2, 3, 4
-abbrev pub firstSends : BoardAnswer → Bool
-firstSends (one a) = false
-firstSends (each a b c d) = isFrame a
-
-abbrev pub secondSends : BoardAnswer → Bool
-secondSends (one a) = false
-secondSends (each a b c d) = isFrame b
-
-abbrev pub thirdSends : BoardAnswer → Bool
-thirdSends (one a) = false
-thirdSends (each a b c d) = isFrame c
-
-abbrev pub fourthSends : BoardAnswer → Bool
-fourthSends (one a) = false
-fourthSends (each a b c d) = isFrame d
+-- whether a tick answered a frame for channel 1 to 4
+abbrev pub sends : ℕ → BoardAnswer → Bool
+sends number (one a) = false
+sends number (each a b c d) = isFrame (ofFour number a b c d)
 
 -- one more where the test holds. A count stays at 2^32 − 1; no run file brings it there (proofs of run_file)
 abbrev pub more : Bool → ℕ → ℕ
@@ -37,10 +25,10 @@ tally c x =
     record {
       steps = c .steps;
       refused = more (refuses x) (c .refused);
-      first = more (firstSends x) (c .first);
-      second = more (secondSends x) (c .second);
-      third = more (thirdSends x) (c .third);
-      fourth = more (fourthSends x) (c .fourth);
+      first = more (sends 1 x) (c .first);
+      second = more (sends 2 x) (c .second);
+      third = more (sends 3 x) (c .third);
+      fourth = more (sends 4 x) (c .fourth);
     }
 
 -- answers counted, in order

@@ -1,37 +1,34 @@
 -- A write to Commands and an event, lent the right length, by their parts: Group End, Start, resumes. Assumes nothing.
 use Prim.Native.Nat.{ℕ, _*_}
-use mathlib.Core.Path.{_≡_, refl, ap, _∙_}
-use mathlib.Core.Bool.{Bool, true, false, cond}
+use mathlib.Core.Path.{_≡_, refl, sym, ap, _∙_}
+use mathlib.Core.Bool.{Bool, true, false}
 use native.Mathlib.Omega.{arith}
 use borrow.Author.Tests.{eq-eqb}
 use Rattle.register_map.specs.AccessRule.{channelAccess}
 use Rattle.status.specs.Bits.{bitAt}
-use Rattle.status.specs.Latching.{run}
 use Rattle.registers.specs.declared.Registers.{Registers}
 use Rattle.registers.specs.Map.{triggersOf, delayOf, startEvent, groupEndEvent}
 use Rattle.sequencer.specs.declared.Stage.the-variants as stage
-use Rattle.sequencer.specs.Playing.{isIdle}
 use Rattle.sequencer.specs.Playing as seq
 use Rattle.sequencer.proofs.Moves.{resume-ignored}
 use Rattle.channel_core.specs.declared.Channel.{Channel}
-use Rattle.channel_core.specs.State.{withSequencer, conditionLatched}
+use Rattle.channel_core.specs.State.{withSequencer}
 use Rattle.channel_core.specs.Behaviour.{started, groupEnded, endedIf, startedIf, resumedIf, resumedOn, eventOf, eventWords, commanded, commandWords}
 use Rattle.channel.specs.Calls.{registerRefusal, registerEffect, registerWords}
-use Rattle.channel.specs.OneChannel.{OneChannel, refusalOf, effect, transition, withReadbacks}
+use Rattle.channel.specs.OneChannel.{OneChannel, refusalOf, effect, transition, withChannel, withReadbacks}
+use Rattle.channel.proofs.Cases.{clash}
+use Rattle.histories.proofs.Leaves.{leaves-event, leaves-command}
 use Rattle.timing.specs.Timing.{command, eventCall}
-
-pub clash : {A : Type 0} → true ≡ false → A
-clash e = absurd (let z : _≡_ {A = ℕ} 0 1 = cc in omega arith)
 
 pub command-transition : (o : OneChannel) (value : ℕ)
     → transition o (command o value)
-    ≡ withReadbacks o (commanded (o .channel) value) (commandWords (o .channel) (o .readbacks) (o .m) value)
+    ≡ withReadbacks (withChannel o (commanded (o .channel) value)) (commandWords (o .channel) (o .readbacks) (o .m) value)
 unfolding transition refusalOf effect registerRefusal registerEffect registerWords channelAccess
 command-transition o value = rw (eq-eqb (o .m * 8) (o .m * 8) refl)
 
 pub event-transition : (o : OneChannel) (code : ℕ)
     → transition o (eventCall o code)
-    ≡ withReadbacks o (eventOf (o .channel) (o .user) code) (eventWords (o .channel) (o .readbacks) (o .m) code)
+    ≡ withReadbacks (withChannel o (eventOf (o .channel) (o .user) code)) (eventWords (o .channel) (o .readbacks) (o .m) code)
 unfolding transition refusalOf effect
 event-transition o code = rw (eq-eqb (o .m * 8) (o .m * 8) refl)
 
@@ -41,7 +38,7 @@ event-transition o code = rw (eq-eqb (o .m * 8) (o .m * 8) refl)
 pub resume-nothing : (on : Bool) (c : Channel) (k delay : ℕ) → (c .sequencer .stage ≡ stage.Paused k → on ≡ false)
     → resumedIf on c k delay ≡ c
 unfolding resumedIf
-resume-nothing true c k delay h = ap (withSequencer c) (resume-ignored (c .sequencer) k delay (λ e. clash (h e)))
+resume-nothing true c k delay h = ap (withSequencer c) (resume-ignored (c .sequencer) k delay (λ e. clash (sym (h e))))
 resume-nothing false c k delay h = refl
 
 pub resumes-nothing : (r : Registers) (c : Channel) (user code : ℕ)
@@ -99,34 +96,12 @@ event-starts c user code armed on =
     (resumes-nothing r (started e d) user code (λ k. not-starting e d a (triggersOf r k code) k))
     ∙ started-sequencer e d a)
 
--- ---- What Start and resumes leave
-
-started-registers : (c : Channel) (delay : ℕ) (armed idle : Bool)
-    → cond armed (withSequencer (cond idle (conditionLatched c run) c) (seq.started (c .sequencer) delay)) c .registers ≡ c .registers
-started-registers c delay true true = refl
-started-registers c delay true false = refl
-started-registers c delay false idle = refl
-
-pub starts-registers : (on : Bool) (c : Channel) (delay : ℕ) → startedIf on c delay .registers ≡ c .registers
-unfolding startedIf started
-starts-registers true c delay = started-registers c delay (c .sequencer .armed) (isIdle (c .sequencer .stage))
-starts-registers false c delay = refl
-
-pub resume-registers : (on : Bool) (c : Channel) (k delay : ℕ) → resumedIf on c k delay .registers ≡ c .registers
-unfolding resumedIf
-resume-registers true c k delay = refl
-resume-registers false c k delay = refl
-
-pub resumes-registers : (r : Registers) (c : Channel) (user code : ℕ) → resumedOn r c user code .registers ≡ c .registers
-unfolding resumedOn
-resumes-registers r c user code = simp resume-registers
-
 -- with no Group End the registers stay
 pub command-registers : (c : Channel) (value : ℕ) → bitAt value 2 ≡ false → commanded c value .registers ≡ c .registers
-unfolding commanded endedIf
-command-registers c value off = rw off (simp (resume-registers, starts-registers))
+unfolding endedIf
+command-registers c value off = leaves-command c value .registers ∙ ap (λ (b : Bool). endedIf b c .registers) off
 
 pub event-registers : (c : Channel) (user code : ℕ) → triggersOf (c .registers) groupEndEvent code ≡ false
     → eventOf c user code .registers ≡ c .registers
-unfolding eventOf endedIf
-event-registers c user code off = rw off (simp (resumes-registers, starts-registers))
+unfolding endedIf
+event-registers c user code off = leaves-event c user code .registers ∙ ap (λ (b : Bool). endedIf b c .registers) off

@@ -1,8 +1,8 @@
 -- Which word leaves: the next one a period after a plain word; the kept one on the beat where it is held. Assumes nothing.
-use Prim.Native.Nat.{ℕ, zero, suc, _+_, _-_, _*_, _≤_, _<_}
+use Prim.Native.Nat.{ℕ, zero, suc, _+_, _*_, _≤_, _<_}
 use mathlib.Core.Path.{_≡_, refl, sym, ap, ap₂, subst, subst₂, _∙_}
-use mathlib.Core.Bool.{Bool, true, false, cond}
-use lib.Dec.{eqb, leb}
+use mathlib.Core.Bool.{true}
+use lib.Dec.{leb}
 use borrow.Author.Tests.{leb-false}
 use native.Mathlib.Omega.{arith}
 use native.Mathlib.Nat.{add-zero, zero-mul, suc-mul}
@@ -12,25 +12,19 @@ use Rattle.sequencer.specs.declared.Kind.the-variants as kind
 use Rattle.sequencer.specs.Words.{kindOf, atEnd}
 use Rattle.sequencer.specs.declared.Sequencer.{Sequencer}
 use Rattle.sequencer.specs.declared.Ticked.{Ticked}
-use Rattle.sequencer.specs.Playing.{repeating, repeated, quiet, withLeft}
+use Rattle.sequencer.specs.Playing.{repeating, repeated}
 use Rattle.sequencer.specs.Runs.{ticks, kindAt, holds}
 use Rattle.sequencer.proofs.Steps.{hold-turn, repeating-same}
 use Rattle.sequencer.proofs.Laws as laws
 use Rattle.channel.specs.OneChannel.{OneChannel}
+use Rattle.channel.proofs.Cases.{by-test}
+use Rattle.histories.proofs.Calls as clock
 use Rattle.timing.specs.Ticking.{after, wordAt, period, frameOf, played, Keeps, Sent, NextFrame, Still}
 use Rattle.timing.specs.Timing as the
 use Rattle.timing.proofs.Bridge.{next-frame, repeat, after-keeps, after-add, on-tick-add, after-with}
 
-some-if : (a b c : Bool) → 1 ≤ cond a 10000 (cond b 1000 (cond c 100 10))
-some-if true b c = omega arith
-some-if false true c = omega arith
-some-if false false true = omega arith
-some-if false false false = omega arith
-
 pub period-some : (o : OneChannel) → 1 ≤ period o
-period-some o =
-    let clock = o .channel .registers .clock in
-    some-if (eqb clock 0) (eqb clock 1) (eqb clock 2)
+period-some o = clock.period-some (o .channel .registers .clock)
 
 pub plain-next : the.PlainNext
 plain-next o i sent plain =
@@ -92,15 +86,11 @@ held o h loaded j some =
     let q = o .channel .sequencer in
     repeat o o (q .word) (q .left) j some refl (laws.hold (wordAt o) (o .n) (period o) q h loaded (period-some o) j)
 
--- after a tick that counts down, or does this on its last count, ticks are left
-pub left-if : (s : Sequencer) (t : Ticked) → 1 ≤ t .sequencer .left → (e : Bool) → leb (s .left) 1 ≡ e
-    → 1 ≤ cond e t (quiet (withLeft s (s .left - 1))) .sequencer .left
-left-if s t h true e = h
-left-if s t h false e = omega (arith, leb-false (s .left) 1 e)
-
-pub left-repeating : (s : Sequencer) (p : ℕ) → 1 ≤ p → 1 ≤ repeating s p .sequencer .left
+-- after a tick that counts down, or repeats on its last count, ticks are left
+left-repeating : (s : Sequencer) (p : ℕ) → 1 ≤ p → 1 ≤ repeating s p .sequencer .left
 unfolding repeating repeated
-left-repeating s p some = left-if s (repeated s p) some (leb (s .left) 1) refl
+left-repeating s p some =
+    by-test (λ (t : Ticked). 1 ≤ t .sequencer .left) (leb (s .left) 1) (λ e. some) (λ e. omega (arith, leb-false (s .left) 1 e))
 
 still : (o : OneChannel) → holds (o .channel .sequencer .stage) ≡ true → 1 ≤ o .channel .sequencer .left → (j : ℕ)
     → (s : Sequencer) → s ≡ played o j

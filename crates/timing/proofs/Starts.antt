@@ -1,6 +1,7 @@
 -- Start: nothing on ticks 1 to delay + 9, and the frame of index 0 on tick delay + 10. Assumes nothing.
 use Prim.Native.Nat.{ℕ, _+_}
 use mathlib.Core.Path.{_≡_, refl, sym, ap, subst, _∙_}
+use mathlib.Core.List.{List}
 use native.Mathlib.Omega.{arith}
 use Rattle.status.specs.Bits.{bitAt}
 use Rattle.registers.specs.Map.{groupEndEvent}
@@ -9,7 +10,8 @@ use Rattle.sequencer.specs.Playing as seq
 use Rattle.sequencer.specs.Runs.{Leaves}
 use Rattle.sequencer.proofs.Laws as laws
 use Rattle.channel_core.specs.Behaviour.{endedIf}
-use Rattle.channel.specs.OneChannel.{OneChannel, transition}
+use Rattle.channel_core.specs.declared.Channel.{Channel}
+use Rattle.channel.specs.OneChannel.{OneChannel, transition, withChannel, withReadbacks}
 use Rattle.timing.specs.Ticking.{wordAt, period, Keeps, NextFrame}
 use Rattle.timing.specs.Timing.{command, eventCall, triggeredBy, delay}
 use Rattle.timing.specs.Timing as the
@@ -34,24 +36,14 @@ start-by-event o code armed on =
     start-frame (transition o (eventCall o code)) (endedIf (triggeredBy o groupEndEvent code) c .sequencer) (delay o 0)
     (ap (λ (p : OneChannel). p .channel .sequencer) (event-transition o code) ∙ event-starts c (o .user) code armed on)
 
+same-registers-keep : (o : OneChannel) (c : Channel) (s : List ℕ) → c .registers ≡ o .channel .registers
+    → Keeps o (withReadbacks (withChannel o c) s)
+same-registers-keep o c s e = record { same-n = refl; same-m = refl; same-user = refl; same-registers = e; same-setpoints = refl }
+
 pub start-keeps : the.StartKeeps
 start-keeps o = (
   λ value off.
-      subst (Keeps o) (sym (command-transition o value))
-      record {
-        same-n = refl;
-        same-m = refl;
-        same-user = refl;
-        same-registers = command-registers (o .channel) value off;
-        same-setpoints = refl;
-      },
+      subst (Keeps o) (sym (command-transition o value)) (same-registers-keep o _ _ (command-registers (o .channel) value off)),
   λ code off.
-      subst (Keeps o) (sym (event-transition o code))
-      record {
-        same-n = refl;
-        same-m = refl;
-        same-user = refl;
-        same-registers = event-registers (o .channel) (o .user) code off;
-        same-setpoints = refl;
-      },
+      subst (Keeps o) (sym (event-transition o code)) (same-registers-keep o _ _ (event-registers (o .channel) (o .user) code off)),
 )

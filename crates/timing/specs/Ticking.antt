@@ -1,4 +1,5 @@
--- Ticks in a row on one channel by itself, what each of them answers, and what the laws of Timing.antt say of those answers.
+-- Document 01, 'A channel's life': ticks in a row on one channel by itself, what each of them answers, and what the laws of Timing.antt say of those
+-- answers.
 use Prim.Native.Nat.{ℕ, _+_, _-_, _*_, _%_, _≤_, _<_}
 use mathlib.Core.Path.{_≡_}
 use lib.ListN.{getD, replicate}

@@ -1,4 +1,4 @@
--- `board::change_user` meets its contract: by the tests on the way and the contracts of what it calls. Assumes nothing.
+-- `board::change_user` meets its contract: refused by the range, nothing for the same user, and else every channel and the user. Assumes nothing.
 use Rattle.board.proofs.change_user.Statement.{statement}
 use Rattle.board.specs.Calls.{userBoard, userAnswer}
 use Rattle.channel.proofs.Ranges.{inside}
@@ -20,7 +20,9 @@ cast-if2 c = search needs
 
 returns-2 : tie.Need-returns-2
 unfolding userBoard userAnswer
-returns-2 c = rw (← c .before .before .before .is-outside .ensures) (simp (c .before .before .if1 .left, eq-eqb _ _ (c .if2 .taken)), simp (c .before .before .if1 .left))
+returns-2 c =
+    let s = c .before .before in
+    rw (← s .before .is-outside .ensures) (simp (s .if1 .left, eq-eqb _ _ (c .if2 .taken)), simp (s .if1 .left))
 
 change-channel-requires : tie.Need-change-channel-requires
 change-channel-requires c κs = search needs
@@ -35,14 +37,33 @@ change-channel-requires-4 : tie.Need-change-channel-requires-4
 change-channel-requires-4 c κs = search needs
 
 cast-with-user : tie.Need-cast-with-user
-cast-with-user c = omega (arith, inside 1 8 (c .before .before .before .before .before .before .before .before .args .user) (sym (c .before .before .before .before .before .before .before .is-outside .ensures) ∙ c .before .before .before .before .before .before .if1 .left))
+cast-with-user c =
+    let s = c .before .before .before .before .before .before in
+    omega (arith, inside 1 8 (s .before .before .args .user) (sym (s .before .is-outside .ensures) ∙ s .if1 .left))
 
 with-user-requires : tie.Need-with-user-requires
 with-user-requires c κs = search needs
 
 returns-3 : tie.Need-returns-3
 unfolding userBoard userAnswer
-returns-3 c = rw (← c .before .before .before .before .before .before .before .before .is-outside .ensures) (simp (c .before .before .before .before .before .before .before .if1 .left, ne-eqb _ _ (c .before .before .before .before .before .if2 .left), c .with-user .ensures, c .before .change-channel4 .ensures, c .before .before .change-channel3 .ensures, c .before .before .before .change-channel2 .ensures, c .before .before .before .before .change-channel .ensures), simp (c .before .before .before .before .before .before .before .if1 .left))
+returns-3 c =
+    let z = c .before in
+    let y = z .before in
+    let x = y .before in
+    let w = x .before in
+    let s = w .before .before .before in
+    rw (← s .before .is-outside .ensures) (
+      simp (
+        s .if1 .left,
+        ne-eqb _ _ (w .before .if2 .left),
+        c .with-user .ensures,
+        z .change-channel4 .ensures,
+        y .change-channel3 .ensures,
+        x .change-channel2 .ensures,
+        w .change-channel .ensures,
+      ),
+      simp (s .if1 .left),
+    )
 
 pub change-user-spec : {M : Type 1} → statement M
 change-user-spec =

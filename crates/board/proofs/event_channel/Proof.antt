@@ -1,27 +1,36 @@
--- `board::event_channel` meets its contract: by the tests on the way and the contracts of what it calls. Assumes nothing.
+-- `board::event_channel` meets its contract: the channel's own event, over its part of the readbacks. Assumes nothing.
+use Prim.Native.Nat.{_+_, _*_, _≤_}
 use Rattle.board.proofs.event_channel.Statement.{statement}
 use Rattle.board.specs.Calls.{eventBoardAt, eventWordsAt}
+use Rattle.board_state.proofs.Parts.{part-within}
 use borrow.Author.Needs.{needs}
 use native.Mathlib.Nat.{add-sub-cancel-left}
+use native.Mathlib.Omega.{arith}
 use Rattle.board.proofs.event_channel.Tie as tie
+
+-- the part lies within the memory
+room : (c : tie.After-part-start) →
+    let size = c .before .before .before .args .b .m * 2 in
+    c .part-start .result + size ≤ 4 * size
+room c = part-within _ _ (c .before .before .before .pre .0) (c .part-start .ensures)
 
 channel-requires : tie.Need-channel-requires
 channel-requires c κs = search needs
 
-cast-size : tie.Need-cast-size
-cast-size c = search needs
+part-start-requires : tie.Need-part-start-requires
+part-start-requires c κs = search needs
 
-mul-size : tie.Need-mul-size
-mul-size c = search needs
+cast-e : tie.Need-cast-e
+cast-e c = search needs
 
-base-requires : tie.Need-base-requires
-base-requires c κs = search needs
+mul-e : tie.Need-mul-e
+mul-e c = search needs
 
 add-e : tie.Need-add-e
-add-e c = search needs
+add-e c = omega (arith, room c)
 
 mul-event : tie.Need-mul-event
-mul-event c = search needs
+mul-event c = omega (arith, room c)
 
 sub-event : tie.Need-sub-event
 sub-event c = search needs
@@ -30,7 +39,7 @@ part-event-start : tie.Need-part-event-start
 part-event-start c = search needs
 
 part-event-end : tie.Need-part-event-end
-part-event-end c = search needs
+part-event-end c = omega (arith, room c)
 
 event-requires : tie.Need-event-requires
 event-requires c κs = search needs
@@ -43,16 +52,20 @@ same-length c = search needs
 
 returns : tie.Need-returns
 unfolding eventBoardAt eventWordsAt
-returns c = (simp (c .with-channel .ensures, c .before .before .before .event .ensures .0, c .before .before .before .before .before .before .channel .ensures), simp (c .before .before .before .event .ensures .1, c .before .before .before .before .before .before .channel .ensures, add-sub-cancel-left, c .before .before .before .before .before .base .ensures .0))
+returns c =
+    let k = c .before .before .before in
+    let p = k .before .before in
+    let x = p .before .channel .ensures in
+    (simp (c .with-channel .ensures, k .event .ensures .0, x), simp (k .event .ensures .1, x, add-sub-cancel-left, p .part-start .ensures))
 
 pub event-channel-spec : {M : Type 1} → statement M
 event-channel-spec =
     tie.close
     (tie.spec
     channel-requires
-    cast-size
-    mul-size
-    base-requires
+    part-start-requires
+    cast-e
+    mul-e
     add-e
     mul-event
     sub-event

@@ -1,4 +1,4 @@
--- `board::open` meets its contract: by the tests on the way and the contracts of what it calls. Assumes nothing.
+-- `board::open` meets its contract: refused by a depth, then by a length, and else opened. Assumes nothing.
 use Rattle.board.proofs.open.Statement.{statement}
 use Rattle.board.specs.Calls.{openBoard, openAnswer, openRefusal}
 use borrow.Author.Needs.{needs}
@@ -13,7 +13,10 @@ refused-open-requires c κs = search needs
 
 returns : tie.Need-returns
 unfolding openBoard openAnswer openRefusal
-returns c = rw (← c .before .before .is-outside .ensures) (simp (c .before .if1 .taken, c .refused-open .ensures .0), simp (c .before .if1 .taken, c .refused-open .ensures .1))
+returns c =
+    let s = c .before in
+    let no = c .refused-open .ensures in
+    rw (← s .before .is-outside .ensures) (simp (s .if1 .taken, no .0), simp (s .if1 .taken, no .1))
 
 is-outside-requires-2 : tie.Need-is-outside-requires-2
 is-outside-requires-2 c κs = search needs
@@ -23,7 +26,12 @@ refused-open-requires-2 c κs = search needs
 
 returns-2 : tie.Need-returns-2
 unfolding openBoard openAnswer openRefusal
-returns-2 c = rw (← c .before .before .is-outside2 .ensures, ← c .before .before .before .before .is-outside .ensures) (simp (c .before .if2 .taken, c .before .before .before .if1 .left, c .refused-open2 .ensures .0), simp (c .before .if2 .taken, c .before .before .before .if1 .left, c .refused-open2 .ensures .1))
+returns-2 c =
+    let b = c .before in
+    let s = b .before .before in
+    let no = c .refused-open2 .ensures in
+    rw (← b .before .is-outside2 .ensures, ← s .before .is-outside .ensures)
+    (simp (b .if2 .taken, s .if1 .left, no .0), simp (b .if2 .taken, s .if1 .left, no .1))
 
 mul-if3 : tie.Need-mul-if3
 mul-if3 c = search needs
@@ -33,7 +41,13 @@ refused-open-requires-3 c κs = search needs
 
 returns-3 : tie.Need-returns-3
 unfolding openBoard openAnswer openRefusal
-returns-3 c = rw (← c .before .before .before .is-outside2 .ensures, ← c .before .before .before .before .before .is-outside .ensures) (simp (ne-eqb _ _ (c .before .if3 .taken), c .before .before .if2 .left, c .before .before .before .before .if1 .left, c .refused-open3 .ensures .0), simp (ne-eqb _ _ (c .before .if3 .taken), c .before .before .if2 .left, c .before .before .before .before .if1 .left, c .refused-open3 .ensures .1))
+returns-3 c =
+    let short = ne-eqb _ _ (c .before .if3 .taken) in
+    let b = c .before .before in
+    let s = b .before .before in
+    let no = c .refused-open3 .ensures in
+    rw (← b .before .is-outside2 .ensures, ← s .before .is-outside .ensures)
+    (simp (short, b .if2 .left, s .if1 .left, no .0), simp (short, b .if2 .left, s .if1 .left, no .1))
 
 mul-if4 : tie.Need-mul-if4
 mul-if4 c = search needs
@@ -43,14 +57,27 @@ refused-open-requires-4 c κs = search needs
 
 returns-4 : tie.Need-returns-4
 unfolding openBoard openAnswer openRefusal
-returns-4 c = rw (← c .before .before .before .before .is-outside2 .ensures, ← c .before .before .before .before .before .before .is-outside .ensures) (simp (ne-eqb _ _ (c .before .if4 .taken), eq-eqb _ _ (c .before .before .if3 .left), c .before .before .before .if2 .left, c .before .before .before .before .before .if1 .left, c .refused-open4 .ensures .0), simp (ne-eqb _ _ (c .before .if4 .taken), eq-eqb _ _ (c .before .before .if3 .left), c .before .before .before .if2 .left, c .before .before .before .before .before .if1 .left, c .refused-open4 .ensures .1))
+returns-4 c =
+    let long = eq-eqb _ _ (c .before .before .if3 .left) in
+    let short = ne-eqb _ _ (c .before .if4 .taken) in
+    let b = c .before .before .before in
+    let s = b .before .before in
+    let no = c .refused-open4 .ensures in
+    rw (← b .before .is-outside2 .ensures, ← s .before .is-outside .ensures)
+    (simp (short, long, b .if2 .left, s .if1 .left, no .0), simp (short, long, b .if2 .left, s .if1 .left, no .1))
 
 opened-requires : tie.Need-opened-requires
 opened-requires c κs = search needs
 
 returns-5 : tie.Need-returns-5
 unfolding openBoard openAnswer openRefusal
-returns-5 c = rw (← c .before .before .before .before .is-outside2 .ensures, ← c .before .before .before .before .before .before .is-outside .ensures) (simp (eq-eqb _ _ (c .before .if4 .left), eq-eqb _ _ (c .before .before .if3 .left), c .before .before .before .if2 .left, c .before .before .before .before .before .if1 .left, c .opened .ensures), simp (eq-eqb _ _ (c .before .if4 .left), eq-eqb _ _ (c .before .before .if3 .left), c .before .before .before .if2 .left, c .before .before .before .before .before .if1 .left))
+returns-5 c =
+    let long = eq-eqb _ _ (c .before .before .if3 .left) in
+    let both = eq-eqb _ _ (c .before .if4 .left) in
+    let b = c .before .before .before in
+    let s = b .before .before in
+    rw (← b .before .is-outside2 .ensures, ← s .before .is-outside .ensures)
+    (simp (both, long, b .if2 .left, s .if1 .left, c .opened .ensures), simp (both, long, b .if2 .left, s .if1 .left))
 
 pub open-spec : {M : Type 1} → statement M
 open-spec =

@@ -1,11 +1,10 @@
+-- `board::retired` meets its contract: the empty part where the channel is out of range, and else what the channel gives. Assumes nothing.
 use Rattle.board.proofs.RetiredPart.{retired-part}
-use denote.Ref.{now}
-use mathlib.Core.Path.{_≡_, sym, ap, _∙_, refl}
--- `board::retired` meets its contract: by the tests on the way and the contracts of what it calls. Assumes nothing.
 use Rattle.board.proofs.retired.Statement.{statement}
 use Rattle.board.specs.Calls.{retiredWords}
 use Rattle.channel.proofs.Ranges.{inside}
 use borrow.Author.Needs.{needs}
+use denote.Ref.{now}
 use mathlib.Core.Path.{sym, _∙_}
 use native.Mathlib.Omega.{arith}
 use Rattle.board.proofs.retired.Tie as tie
@@ -18,10 +17,14 @@ slice-aggregate-result c = search needs
 
 returns : tie.Need-returns
 unfolding retiredWords
-returns c = let a = c .before .before .before .before .before .args in rw (retired-part (a .b) (a .number) (now (a .one)) (now (a .two)), ← c .before .before .is-outside .ensures) (simp (c .before .if1 .taken))
+returns c =
+    let s = c .before in
+    let a = s .before .before .before .before .args in
+    rw (retired-part (a .b) (a .number) (now (a .one)) (now (a .two)), ← s .before .is-outside .ensures) (simp (s .if1 .taken))
 
 cast-channel : tie.Need-cast-channel
-cast-channel c = omega (arith, inside 1 4 (c .before .before .before .before .args .number) (sym (c .before .is-outside .ensures) ∙ c .if1 .left))
+cast-channel c =
+    omega (arith, inside 1 4 (c .before .before .before .before .args .number) (sym (c .before .is-outside .ensures) ∙ c .if1 .left))
 
 channel-requires : tie.Need-channel-requires
 channel-requires c κs = search needs
@@ -31,7 +34,11 @@ retired-requires c κs = search needs
 
 returns-2 : tie.Need-returns-2
 unfolding retiredWords
-returns-2 c = let a = c .before .before .before .before .before .before .args in rw (retired-part (a .b) (a .number) (now (a .one)) (now (a .two)), ← c .before .before .before .is-outside .ensures) (simp (c .before .before .if1 .left, c .retired .ensures, c .before .channel .ensures))
+returns-2 c =
+    let s = c .before .before in
+    let a = s .before .before .before .before .args in
+    rw (retired-part (a .b) (a .number) (now (a .one)) (now (a .two)), ← s .before .is-outside .ensures)
+    (simp (s .if1 .left, c .retired .ensures, c .before .channel .ensures))
 
 pub retired-spec : {M : Type 1} → statement M
 retired-spec =

@@ -1,4 +1,4 @@
--- `board::retired_length` meets its contract: by the tests on the way and the contracts of what it calls. Assumes nothing.
+-- `board::retired_length` meets its contract: the lengths, then the channel, and else what the channel answers. Assumes nothing.
 use Prim.Native.Nat.{ℕ}
 use Rattle.board_state.specs.State.{channelAt}
 use Rattle.board_state.specs.declared.Board.{Board}
@@ -44,10 +44,13 @@ is-outside-requires c κs = search needs
 
 returns-3 : tie.Need-returns-3
 unfolding retiredLength retiredWords one.retiredLength
-returns-3 c = rw (← c .before .is-outside .ensures) (simp (eq-eqb _ _ (c .before .before .before .if1 .left), eq-eqb _ _ (c .before .before .if2 .left), c .if3 .taken))
+returns-3 c =
+    let s = c .before .before in
+    rw (← c .before .is-outside .ensures) (simp (eq-eqb _ _ (s .before .if1 .left), eq-eqb _ _ (s .if2 .left), c .if3 .taken))
 
 cast-channel : tie.Need-cast-channel
-cast-channel c = omega (arith, inside 1 4 (c .before .before .before .before .before .before .args .number) (sym (c .before .is-outside .ensures) ∙ c .if3 .left))
+cast-channel c =
+    omega (arith, inside 1 4 (c .before .before .before .before .before .before .args .number) (sym (c .before .is-outside .ensures) ∙ c .if3 .left))
 
 channel-requires : tie.Need-channel-requires
 channel-requires c κs = search needs
@@ -57,7 +60,15 @@ retired-length-requires c κs = search needs
 
 returns-4 : tie.Need-returns-4
 unfolding retiredLength retiredWords one.retiredLength
-returns-4 c = let a = c .before .before .before .before .before .before .before .before .args in c .retired-length .ensures ∙ ap (λ (x : Channel). one.retiredLength x (a .b .m) (now (a .one)) (now (a .two))) (c .before .channel .ensures) ∙ plain (a .b) (a .number) (now (a .one)) (now (a .two)) (sym (c .before .before .before .is-outside .ensures) ∙ c .before .before .if3 .left) (eq-eqb _ _ (c .before .before .before .before .before .if1 .left)) (eq-eqb _ _ (c .before .before .before .before .if2 .left))
+returns-4 c =
+    let k = c .before .before in
+    let s = k .before .before in
+    let a = s .before .before .before .before .args in
+    let one-long = eq-eqb _ _ (s .before .if1 .left) in
+    let two-long = eq-eqb _ _ (s .if2 .left) in
+    c .retired-length .ensures
+    ∙ ap (λ (x : Channel). one.retiredLength x (a .b .m) (now (a .one)) (now (a .two))) (c .before .channel .ensures)
+    ∙ plain (a .b) (a .number) (now (a .one)) (now (a .two)) (sym (k .before .is-outside .ensures) ∙ k .if3 .left) one-long two-long
 
 pub retired-length-spec : {M : Type 1} → statement M
 retired-length-spec =

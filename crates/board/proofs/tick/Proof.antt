@@ -1,4 +1,4 @@
--- `board::tick` meets its contract: by the tests on the way and the contracts of what it calls. Assumes nothing.
+-- `board::tick` meets its contract: the length, then the four channels, each over its part. Assumes nothing.
 use Rattle.board.proofs.tick.Statement.{statement}
 use Rattle.board.specs.Calls.{tickBoard, tickBoardAnswer}
 use borrow.Author.Needs.{needs}
@@ -41,7 +41,22 @@ with-channel-requires-4 c κs = search needs
 
 returns-2 : tie.Need-returns-2
 unfolding tickBoard tickBoardAnswer
-returns-2 c = (simp (eq-eqb _ _ (c .before .before .before .before .before .before .before .before .before .before .before .before .if1 .left), c .with-channel4 .ensures, c .before .with-channel3 .ensures, c .before .before .with-channel2 .ensures, c .before .before .before .with-channel .ensures, c .before .before .before .before .before .before .before .before .tick-channel4 .ensures .0, c .before .before .before .before .before .before .before .before .before .tick-channel3 .ensures .0, c .before .before .before .before .before .before .before .before .before .before .tick-channel2 .ensures .0, c .before .before .before .before .before .before .before .before .before .before .before .tick-channel .ensures .0), simp (eq-eqb _ _ (c .before .before .before .before .before .before .before .before .before .before .before .before .if1 .left), c .before .before .before .before .before .before .before .before .tick-channel4 .ensures .1, c .before .before .before .before .before .before .before .before .before .tick-channel3 .ensures .1, c .before .before .before .before .before .before .before .before .before .before .tick-channel2 .ensures .1, c .before .before .before .before .before .before .before .before .before .before .before .tick-channel .ensures .1))
+returns-2 c =
+    let y = c .before in
+    let x = y .before in
+    let w = x .before in
+    let s = w .before .before .before .before .before in
+    let r = s .before in
+    let q = r .before in
+    let p = q .before in
+    let long = eq-eqb _ _ (p .before .if1 .left) in
+    let one = p .tick-channel .ensures in
+    let two = q .tick-channel2 .ensures in
+    let three = r .tick-channel3 .ensures in
+    let four = s .tick-channel4 .ensures in (
+      simp (long, c .with-channel4 .ensures, y .with-channel3 .ensures, x .with-channel2 .ensures, w .with-channel .ensures, four .0, three .0, two .0, one .0),
+      simp (long, four .1, three .1, two .1, one .1),
+    )
 
 pub tick-spec : {M : Type 1} → statement M
 tick-spec =

@@ -1,4 +1,4 @@
--- `board_registers::read_channel` meets its contract: by the tests on the way and the contracts of what it calls. Assumes nothing.
+-- `board_registers::read_channel` meets its contract: the channel's own register read. Assumes nothing.
 use Rattle.board_registers.proofs.read_channel.Statement.{statement}
 use borrow.Author.Needs.{needs}
 use Rattle.board_registers.proofs.read_channel.Tie as tie
@@ -13,7 +13,10 @@ with-channel-requires : tie.Need-with-channel-requires
 with-channel-requires c κs = search needs
 
 returns : tie.Need-returns
-returns c = (simp (c .with-channel .ensures, c .before .before .read-register .ensures .0, c .before .before .before .channel .ensures), simp (c .before .before .read-register .ensures .1, c .before .before .before .channel .ensures))
+returns c =
+    let k = c .before .before in
+    let x = k .before .channel .ensures in
+    (simp (c .with-channel .ensures, k .read-register .ensures .0, x), simp (k .read-register .ensures .1, x))
 
 pub read-channel-spec : {M : Type 1} → statement M
 read-channel-spec =

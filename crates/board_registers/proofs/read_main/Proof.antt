@@ -1,4 +1,4 @@
--- `board_registers::read_main` meets its contract: by the tests on the way and the contracts of what it calls. Assumes nothing.
+-- `board_registers::read_main` meets its contract: refused by the access of the offset, and else the value, with what the read clears. Assumes nothing.
 use Rattle.board_registers.proofs.read_main.Statement.{statement}
 use Rattle.refusal.proofs.Laws.{refuses}
 use borrow.Author.Needs.{needs}
@@ -23,10 +23,19 @@ enum-known-v : tie.Need-enum-known-v
 enum-known-v c = search needs
 
 returns : tie.Need-returns
-returns c = rw (← c .before .before .before .before .before .main-access .ensures, ← c .before .before .before .before .read-verdict .ensures) (simp (c .before .before .enum-told .given .1, c .before .main-read .ensures), simp (c .before .before .enum-told .given .1, c .main-value .ensures))
+returns c =
+    let s = c .before .before in
+    let v = s .before .before in
+    let allowed = s .enum-told .given .1 in
+    rw (← v .before .main-access .ensures, ← v .read-verdict .ensures)
+    (simp (allowed, c .before .main-read .ensures), simp (allowed, c .main-value .ensures))
 
 returns-2 : tie.Need-returns-2
-returns-2 c = rw (← c .before .before .before .before .main-access .ensures, ← c .before .before .before .read-verdict .ensures) (simp (c .before .v .given .1, refuses), simp (c .before .v .given .1, refuses))
+returns-2 c =
+    let s = c .before in
+    let v = s .before .before in
+    let refused = s .v .given .1 in
+    rw (← v .before .main-access .ensures, ← v .read-verdict .ensures) (simp (refused, refuses), simp (refused, refuses))
 
 pub read-main-spec : {M : Type 1} → statement M
 read-main-spec =

@@ -1,4 +1,4 @@
--- `board_registers::read_register` meets its contract: by the tests on the way and the contracts of what it calls. Assumes nothing.
+-- `board_registers::read_register` meets its contract: by what the address names. Assumes nothing.
 use Rattle.board_registers.proofs.read_register.Statement.{statement}
 use Rattle.board.specs.Calls.{readBoard, readAnswer}
 use borrow.Author.Needs.{needs}
@@ -24,11 +24,17 @@ enum-told c = search needs
 
 returns : tie.Need-returns
 unfolding readBoard readAnswer
-returns c = rw (← c .before .before .before .before .decode-address .ensures) (simp (c .before .before .region .given .1, c .read-main .ensures .0), simp (c .before .before .region .given .1, c .read-main .ensures .1))
+returns c =
+    let s = c .before .before in
+    let is = s .region .given .1 in
+    rw (← s .before .before .decode-address .ensures) (simp (is, c .read-main .ensures .0), simp (is, c .read-main .ensures .1))
 
 returns-2 : tie.Need-returns-2
 unfolding readBoard readAnswer
-returns-2 c = rw (← c .before .before .before .before .decode-address .ensures) (simp (c .before .before .region2 .given .1, c .read-channel .ensures .0), simp (c .before .before .region2 .given .1, c .read-channel .ensures .1))
+returns-2 c =
+    let s = c .before .before in
+    let is = s .region2 .given .1 in
+    rw (← s .before .before .decode-address .ensures) (simp (is, c .read-channel .ensures .0), simp (is, c .read-channel .ensures .1))
 
 returns-3 : tie.Need-returns-3
 unfolding readBoard readAnswer

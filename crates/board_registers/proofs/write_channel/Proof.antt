@@ -1,26 +1,35 @@
--- `board_registers::write_channel` meets its contract: by the tests on the way and the contracts of what it calls. Assumes nothing.
+-- `board_registers::write_channel` meets its contract: the channel's own register write, over its part of the readbacks. Assumes nothing.
+use Prim.Native.Nat.{_+_, _*_, _≤_}
 use Rattle.board_registers.proofs.write_channel.Statement.{statement}
+use Rattle.board_state.proofs.Parts.{part-within}
 use borrow.Author.Needs.{needs}
 use native.Mathlib.Nat.{add-sub-cancel-left}
+use native.Mathlib.Omega.{arith}
 use Rattle.board_registers.proofs.write_channel.Tie as tie
+
+-- the part lies within the memory
+room : (c : tie.After-part-start) →
+    let size = c .before .before .before .args .b .m * 2 in
+    c .part-start .result + size ≤ 4 * size
+room c = part-within _ _ (c .before .before .before .pre .0) (c .part-start .ensures)
 
 channel-requires : tie.Need-channel-requires
 channel-requires c κs = search needs
 
-cast-size : tie.Need-cast-size
-cast-size c = search needs
+part-start-requires : tie.Need-part-start-requires
+part-start-requires c κs = search needs
 
-mul-size : tie.Need-mul-size
-mul-size c = search needs
+cast-e : tie.Need-cast-e
+cast-e c = search needs
 
-base-requires : tie.Need-base-requires
-base-requires c κs = search needs
+mul-e : tie.Need-mul-e
+mul-e c = search needs
 
 add-e : tie.Need-add-e
-add-e c = search needs
+add-e c = omega (arith, room c)
 
 mul-write-register : tie.Need-mul-write-register
-mul-write-register c = search needs
+mul-write-register c = omega (arith, room c)
 
 sub-write-register : tie.Need-sub-write-register
 sub-write-register c = search needs
@@ -29,7 +38,7 @@ part-write-register-start : tie.Need-part-write-register-start
 part-write-register-start c = search needs
 
 part-write-register-end : tie.Need-part-write-register-end
-part-write-register-end c = search needs
+part-write-register-end c = omega (arith, room c)
 
 write-register-requires : tie.Need-write-register-requires
 write-register-requires c κs = search needs
@@ -41,16 +50,23 @@ same-length : tie.Need-same-length
 same-length c = search needs
 
 returns : tie.Need-returns
-returns c = (simp (c .with-channel .ensures, c .before .before .before .before .write-register .ensures .0, c .before .before .before .before .before .before .before .channel .ensures), simp (c .before .before .before .before .write-register .ensures .1), simp (c .before .before .before .before .write-register .ensures .2, c .before .before .before .before .before .before .before .channel .ensures, add-sub-cancel-left, c .before .before .before .before .before .before .base .ensures .0))
+returns c =
+    let k = c .before .before .before .before in
+    let p = k .before .before in
+    let x = p .before .channel .ensures in (
+      simp (c .with-channel .ensures, k .write-register .ensures .0, x),
+      simp (k .write-register .ensures .1),
+      simp (k .write-register .ensures .2, x, add-sub-cancel-left, p .part-start .ensures),
+    )
 
 pub write-channel-spec : {M : Type 1} → statement M
 write-channel-spec =
     tie.close
     (tie.spec
     channel-requires
-    cast-size
-    mul-size
-    base-requires
+    part-start-requires
+    cast-e
+    mul-e
     add-e
     mul-write-register
     sub-write-register

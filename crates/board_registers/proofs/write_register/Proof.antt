@@ -1,4 +1,4 @@
--- `board_registers::write_register` meets its contract: by the tests on the way and the contracts of what it calls. Assumes nothing.
+-- `board_registers::write_register` meets its contract: the length, then what the address names. Assumes nothing.
 use Rattle.board_registers.proofs.write_register.Statement.{statement}
 use Rattle.board.specs.Calls.{writeBoard, writeAnswer, writeWords}
 use Rattle.register_map.proofs.Laws.{named-channel}
@@ -17,7 +17,9 @@ mul-if1 c = search needs
 
 returns : tie.Need-returns
 unfolding writeBoard writeAnswer writeWords
-returns c = (simp (ne-eqb _ _ (c .if1 .taken)), simp (ne-eqb _ _ (c .if1 .taken)), simp (ne-eqb _ _ (c .if1 .taken)))
+returns c =
+    let short = ne-eqb _ _ (c .if1 .taken) in
+    (simp (short), simp (short), simp (short))
 
 decode-address-requires : tie.Need-decode-address-requires
 decode-address-requires c κs = search needs
@@ -32,25 +34,45 @@ enum-known-region-2 : tie.Need-enum-known-region-2
 enum-known-region-2 c = search needs
 
 write-channel-requires : tie.Need-write-channel-requires
-write-channel-requires c κs = let n = named-channel (c .before .before .before .before .before .before .before .before .args .address) (sym (c .before .before .before .before .decode-address .ensures) ∙ ap namedOf (c .before .before .region2 .given .1)) in (n .0, n .1, omega arith)
+write-channel-requires c κs =
+    let s = c .before .before in
+    let d = s .before .before in
+    let n = named-channel (d .before .before .before .before .args .address) (sym (d .decode-address .ensures) ∙ ap namedOf (s .region2 .given .1)) in
+    (n .1, omega arith)
 
 enum-told : tie.Need-enum-told
 enum-told c = search needs
 
 returns-2 : tie.Need-returns-2
 unfolding writeBoard writeAnswer writeWords
-returns-2 c = rw (← c .before .before .before .before .decode-address .ensures) (simp (eq-eqb _ _ (c .before .before .before .before .before .if1 .left), c .before .before .region .given .1, c .write-main .ensures .0), simp (eq-eqb _ _ (c .before .before .before .before .before .if1 .left), c .before .before .region .given .1, c .write-main .ensures .1), simp (eq-eqb _ _ (c .before .before .before .before .before .if1 .left), c .before .before .region .given .1))
+returns-2 c =
+    let s = c .before .before in
+    let d = s .before .before in
+    let long = eq-eqb _ _ (d .before .if1 .left) in
+    let is = s .region .given .1 in
+    rw (← d .decode-address .ensures) (simp (long, is, c .write-main .ensures .0), simp (long, is, c .write-main .ensures .1), simp (long, is))
 
 same-length : tie.Need-same-length
 same-length c = search needs
 
 returns-3 : tie.Need-returns-3
 unfolding writeBoard writeAnswer writeWords
-returns-3 c = rw (← c .before .before .before .before .before .before .before .decode-address .ensures) (simp (eq-eqb _ _ (c .before .before .before .before .before .before .before .before .if1 .left), c .before .before .before .before .before .region2 .given .1, c .before .before .write-channel .ensures .0), simp (eq-eqb _ _ (c .before .before .before .before .before .before .before .before .if1 .left), c .before .before .before .before .before .region2 .given .1, c .before .before .write-channel .ensures .1), simp (eq-eqb _ _ (c .before .before .before .before .before .before .before .before .if1 .left), c .before .before .before .before .before .region2 .given .1, c .before .before .write-channel .ensures .2))
+returns-3 c =
+    let k = c .before .before in
+    let s = k .before .before .before in
+    let d = s .before .before in
+    let long = eq-eqb _ _ (d .before .if1 .left) in
+    let is = s .region2 .given .1 in
+    let w = k .write-channel .ensures in
+    rw (← d .decode-address .ensures) (simp (long, is, w .0), simp (long, is, w .1), simp (long, is, w .2))
 
 returns-4 : tie.Need-returns-4
 unfolding writeBoard writeAnswer writeWords
-returns-4 c = rw (← c .before .before .decode-address .ensures) (simp (eq-eqb _ _ (c .before .before .before .if1 .left), c .enum-told .given .1), simp (eq-eqb _ _ (c .before .before .before .if1 .left), c .enum-told .given .1), simp (eq-eqb _ _ (c .before .before .before .if1 .left), c .enum-told .given .1))
+returns-4 c =
+    let d = c .before .before in
+    let long = eq-eqb _ _ (d .before .if1 .left) in
+    let is = c .enum-told .given .1 in
+    rw (← d .decode-address .ensures) (simp (long, is), simp (long, is), simp (long, is))
 
 pub write-register-spec : {M : Type 1} → statement M
 write-register-spec =

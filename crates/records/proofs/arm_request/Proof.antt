@@ -4,8 +4,7 @@ use Rattle.records.proofs.arm_request.Statement.{statement}
 use Rattle.records.proofs.arm_request.Tie as tie
 
 returns : tie.Need-returns
-returns c =
-    simp (eq-eqb _ _ (c .if1 .taken))
+returns c = simp (eq-eqb _ _ (c .if1 .taken))
 
 returns-2 : tie.Need-returns-2
 returns-2 c =

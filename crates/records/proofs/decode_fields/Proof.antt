@@ -36,8 +36,7 @@ returns c =
 
 returns-2 : tie.Need-returns-2
 unfolding askedBy
-returns-2 c =
-    simp (c .match .keys2)
+returns-2 c = simp (c .match .keys2)
 
 returns-3 : tie.Need-returns-3
 unfolding askedBy
@@ -65,13 +64,11 @@ returns-5 c =
 
 returns-6 : tie.Need-returns-6
 unfolding askedBy
-returns-6 c =
-    simp (c .match .keys6)
+returns-6 c = simp (c .match .keys6)
 
 returns-7 : tie.Need-returns-7
 unfolding askedBy
-returns-7 c =
-    simp (c .match .keys7)
+returns-7 c = simp (c .match .keys7)
 
 returns-8 : tie.Need-returns-8
 unfolding askedBy

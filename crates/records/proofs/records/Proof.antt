@@ -1,8 +1,7 @@
 -- `records::records` meets its contract. Assumes nothing.
-use mathlib.Core.Path.{_≡_, ap, sym, _∙_}
+use mathlib.Core.Path.{ap, sym, _∙_}
 use native.Mathlib.Omega.{arith}
 use denote.Ref.{now}
-use Rattle.records.specs.Files.{recordsPart}
 use Rattle.records.specs.Answers.{bytesOf}
 use Rattle.records.proofs.Trailers.{accepted, part-is, part-none}
 use borrow.Author.Needs.{needs}

@@ -2,7 +2,7 @@
 use mathlib.Core.Path.{_≡_}
 use denote.Ref.{now}
 use Rattle.records.specs.Files.{recordsLength, fileRefusal, distance, count}
-use borrow.Author.Tests.{lt-ltb, le-ltb, le-leb, lt-leb, eq-eqb, ne-eqb}
+use borrow.Author.Tests.{lt-ltb, le-ltb, eq-eqb, ne-eqb}
 use borrow.Author.Needs.{needs}
 use Rattle.records.proofs.records_length.Statement.{statement}
 use Rattle.records.proofs.records_length.Tie as tie
@@ -17,19 +17,13 @@ many c = c .word2 .ensures
 
 returns : tie.Need-returns
 unfolding recordsLength fileRefusal
-returns c =
-    simp (
-      lt-ltb _ _ (c .if1 .taken),
-      lt-leb _ _ (c .if1 .taken),
-    )
+returns c = simp (lt-ltb _ _ (c .if1 .taken))
 
 returns-2 : tie.Need-returns-2
 unfolding recordsLength fileRefusal
 returns-2 c =
     simp (
       lt-ltb _ _ (c .if2 .taken),
-      lt-leb _ _ (c .if2 .taken),
-      le-leb _ _ (c .before .if1 .left),
       le-ltb _ _ (c .before .if1 .left),
     )
 
@@ -59,9 +53,7 @@ unfolding recordsLength fileRefusal
 returns-3 c = rw (← back (c .before .before), ← many (c .before))
     (simp (
       ne-eqb _ _ (c .if3 .taken),
-      le-leb _ _ (c .before .before .before .if2 .left),
       le-ltb _ _ (c .before .before .before .if2 .left),
-      le-leb _ _ (c .before .before .before .before .if1 .left),
       le-ltb _ _ (c .before .before .before .before .if1 .left),
     ))
 
@@ -70,11 +62,8 @@ unfolding recordsLength fileRefusal
 returns-4 c = rw (← back (c .before .before .before), ← many (c .before .before))
     (simp (
       lt-ltb _ _ (c .if4 .taken),
-      lt-leb _ _ (c .if4 .taken),
       eq-eqb _ _ (c .before .if3 .left),
-      le-leb _ _ (c .before .before .before .before .if2 .left),
       le-ltb _ _ (c .before .before .before .before .if2 .left),
-      le-leb _ _ (c .before .before .before .before .before .if1 .left),
       le-ltb _ _ (c .before .before .before .before .before .if1 .left),
     ))
 
@@ -85,12 +74,9 @@ returns-5 : tie.Need-returns-5
 unfolding recordsLength fileRefusal
 returns-5 c = rw (← back (c .before .before .before), ← many (c .before .before))
     (simp (
-      le-leb _ _ (c .if4 .left),
       le-ltb _ _ (c .if4 .left),
       eq-eqb _ _ (c .before .if3 .left),
-      le-leb _ _ (c .before .before .before .before .if2 .left),
       le-ltb _ _ (c .before .before .before .before .if2 .left),
-      le-leb _ _ (c .before .before .before .before .before .if1 .left),
       le-ltb _ _ (c .before .before .before .before .before .if1 .left),
     ))
 

@@ -1,30 +1,22 @@
 -- `records::ticks_request` meets its contract. Assumes nothing.
-use borrow.Author.Tests.{lt-ltb, le-ltb, le-leb, lt-leb}
+use borrow.Author.Tests.{lt-ltb, le-ltb}
 use Rattle.records.proofs.ticks_request.Statement.{statement}
 use Rattle.records.proofs.ticks_request.Tie as tie
 
 returns : tie.Need-returns
-returns c =
-    simp (
-      lt-ltb _ _ (c .if1 .taken),
-      lt-leb _ _ (c .if1 .taken),
-    )
+returns c = simp (lt-ltb _ _ (c .if1 .taken))
 
 returns-2 : tie.Need-returns-2
 returns-2 c =
     simp (
       lt-ltb _ _ (c .if2 .taken),
-      lt-leb _ _ (c .if2 .taken),
-      le-leb _ _ (c .before .if1 .left),
       le-ltb _ _ (c .before .if1 .left),
     )
 
 returns-3 : tie.Need-returns-3
 returns-3 c =
     simp (
-      le-leb _ _ (c .if2 .left),
       le-ltb _ _ (c .if2 .left),
-      le-leb _ _ (c .before .if1 .left),
       le-ltb _ _ (c .before .if1 .left),
     )
 

@@ -2,7 +2,6 @@
 use borrow.Author.Needs.{needs}
 use Rattle.replay.proofs.reply.Statement.{statement}
 use Rattle.replay.proofs.reply.Tie as tie
-use Rattle.tally.proofs.Counts.reply.Reads as Counts-reply-reads
 
 reply-requires : tie.Need-reply-requires
 reply-requires c κs = search needs

@@ -2,7 +2,6 @@
 use borrow.Author.Needs.{needs}
 use Rattle.replay.proofs.tick.Statement.{statement}
 use Rattle.replay.proofs.tick.Tie as tie
-use Rattle.tally.proofs.Counts.tick.Reads as Counts-tick-reads
 
 tick-requires : tie.Need-tick-requires
 tick-requires c κs = search needs

@@ -1,4 +1,5 @@
 -- `replay::write` meets its contract. Assumes nothing.
+use mathlib.Core.Path.{_∙_}
 use borrow.Author.Needs.{needs}
 use Rattle.replay.proofs.write.Statement.{statement}
 use Rattle.replay.proofs.write.Tie as tie
@@ -6,14 +7,16 @@ use Rattle.replay.proofs.write.Tie as tie
 write-register-requires : tie.Need-write-register-requires
 write-register-requires c κs = search needs
 
-outcome-requires : tie.Need-outcome-requires
-outcome-requires c κs = search needs
+counted-requires : tie.Need-counted-requires
+counted-requires c κs = search needs
 
 same-length : tie.Need-same-length
 same-length c = search needs
 
 returns : tie.Need-returns
-returns c = (c .before .before .before .before .write-register .ensures .0, simp (c .outcome .ensures, c .before .before .before .before .write-register .ensures .1), c .before .before .before .before .write-register .ensures .2)
+returns c =
+    let k = c .before .before .before .write-register .ensures in
+    (c .counted .ensures .0 ∙ k .0, simp (c .counted .ensures .1, k .1), k .2)
 
 pub write-spec : {M : Type 1} → statement M
-write-spec = tie.close (tie.spec write-register-requires outcome-requires same-length returns)
+write-spec = tie.close (tie.spec write-register-requires counted-requires same-length returns)

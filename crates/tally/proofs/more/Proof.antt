@@ -1,5 +1,5 @@
 -- `tally::more` meets its contract. Assumes nothing.
-use borrow.Author.Tests.{lt-ltb, le-ltb, le-leb, lt-leb}
+use borrow.Author.Tests.{lt-ltb, le-ltb}
 use borrow.Author.Needs.{needs}
 use Rattle.tally.proofs.more.Statement.{statement}
 use Rattle.tally.proofs.more.Tie as tie
@@ -11,14 +11,12 @@ returns : tie.Need-returns
 returns c =
     simp (
       lt-ltb _ _ (c .if2 .taken),
-      lt-leb _ _ (c .if2 .taken),
       c .before .if1 .taken,
     )
 
 returns-2 : tie.Need-returns-2
 returns-2 c =
     simp (
-      le-leb _ _ (c .if2 .left),
       le-ltb _ _ (c .if2 .left),
       c .before .if1 .taken,
     )

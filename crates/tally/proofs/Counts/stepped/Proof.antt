@@ -9,8 +9,7 @@ more-requires c κs = search needs
 
 returns : tie.Need-returns
 unfolding stepped
-returns c =
-    simp (c .more .ensures)
+returns c = simp (c .more .ensures)
 
 pub stepped-spec : {M : Type 1} → statement M
 stepped-spec = tie.close (tie.spec more-requires returns)

@@ -11,9 +11,12 @@ part xs a k = take k (drop a xs)
 abbrev pub splice : {A : Type 0} → List A → ℕ → ℕ → List A → List A
 splice xs a k ys = take a xs ++ (ys ++ drop k (drop a xs))
 
--- the part of channel `number`, of this size
+-- where the part of channel `number`, of this size, starts
+abbrev pub partStart : ℕ → ℕ → ℕ
+partStart number size = (number - 1) * size
+
 abbrev pub own : List ℕ → ℕ → ℕ → List ℕ
-own s size number = part s ((number - 1) * size) size
+own s size number = part s (partStart number size) size
 
 abbrev pub withOwn : List ℕ → ℕ → ℕ → List ℕ → List ℕ
-withOwn s size number ys = splice s ((number - 1) * size) size ys
+withOwn s size number ys = splice s (partStart number size) size ys
