@@ -1,6 +1,6 @@
 //! The answers to calls, as `trace` and `calls` print them.
 
-use crate::board::Reply;
+use crate::board::{Board, Reply};
 use std::fmt;
 
 #[derive(Clone, PartialEq, Debug)]
@@ -45,4 +45,16 @@ impl fmt::Display for Answer {
 /// An answer or a refusal's number as an answer.
 pub fn answer<T>(result: Result<T, u8>, show: impl FnOnce(T) -> Answer) -> Answer {
     result.map_or_else(Answer::Refused, show)
+}
+
+/// As many ticks; the first that is refused is the answer.
+pub fn ticks(board: &mut Board, setpoints: &[u32], count: u32) -> Answer {
+    let mut sent = Vec::new();
+    for t in 1..=count {
+        match board.tick(setpoints) {
+            Ok(frames) => sent.extend((1..=4).filter_map(|c| frames[c - 1].map(|frame| (t, c, frame)))),
+            Err(n) => return Answer::Refused(n),
+        }
+    }
+    Answer::Ticks(sent)
 }

@@ -1,6 +1,7 @@
 //! `selftest`: document 01's starred examples, run on this program.
 
-use crate::board::{crc, frame, Board, Reply};
+use crate::board::{Board, Reply};
+use crate::frame::{crc, frame};
 use crate::{runfile, script};
 
 struct Small {
@@ -36,30 +37,46 @@ impl Small {
     }
 }
 
-pub fn all() -> Vec<(&'static str, bool)> {
-    let mut done = Vec::new();
-    // "ID, data 0: auxiliary 0, 1, 2, 3 give CRC 00h, B3h, D5h, 66h; frames 3, 1743, 2903, 3483."
-    done.push(("CRC rows", (0..4).map(crc).eq([0x00, 0xB3, 0xD5, 0x66])));
-    done.push(("frames", (0..4).map(|a| frame(0, 0, a)).eq([3, 1743, 2903, 3483])));
-    // "Frame 7 is well framed, CRC wrong. 2 and 2^42 + 3 refuse 7."
+type Done = Vec<(&'static str, bool)>;
+
+pub fn all() -> Done {
+    [frames(), starts(), resumes(), kept_words(), files()].concat()
+}
+
+fn frames() -> Done {
     let mut t = Small::new(&[0x8000_0005]);
     t.write(0x808, 1);
     t.sends(1, 10);
-    done.push(("frame 7", t.b.reply(1, 7, &mut t.r) == Ok(Reply::Kept) && t.r[0] == 0xA100_0000));
-    done.push(("2 and 2^42 + 3", [2, (1 << 42) + 3].iter().all(|&f| t.b.reply(1, f, &mut t.r) == Err(7))));
-    // "Delay 0: first frame on tick 10. Delay FFFFFFh: tick 16,777,225."
-    let mut t = Small::new(&[5]);
-    t.write(0x820, 0x101);
-    t.b.event(1, &mut t.r).unwrap();
-    done.push(("first frame on tick 10", t.sends(1, 10) == [(10, 5)]));
-    let mut t = Small::new(&[5]);
-    t.write(0x820, 0x101);
-    t.write(0x840, 0xFF);
-    t.write(0x842, 0xFFFF);
-    t.b.event(1, &mut t.r).unwrap();
-    done.push(("first frame on tick 16,777,225", t.sends(1, 16_777_225) == [(16_777_225, 5)]));
-    // "Period 10, pause 1 sent on tick 10, resume delay 25 then loaded: repeats on 20 and 30,
-    // next word on 45. Delay 0: next on 20."
+    vec![
+        // "ID, data 0: auxiliary 0, 1, 2, 3 give CRC 00h, B3h, D5h, 66h; frames 3, 1743, 2903, 3483."
+        ("CRC rows", (0..4).map(crc).eq([0x00, 0xB3, 0xD5, 0x66])),
+        ("frames", (0..4).map(|a| frame(0, 0, a)).eq([3, 1743, 2903, 3483])),
+        // "Frame 7 is well framed, CRC wrong. 2 and 2^42 + 3 refuse 7."
+        ("frame 7", t.b.reply(1, 7, &mut t.r) == Ok(Reply::Kept) && t.r[0] == 0xA100_0000),
+        ("2 and 2^42 + 3", [2, (1 << 42) + 3].iter().all(|&f| t.b.reply(1, f, &mut t.r) == Err(7))),
+    ]
+}
+
+/// "Delay 0: first frame on tick 10. Delay FFFFFFh: tick 16,777,225."
+fn starts() -> Done {
+    let started = |high, low| {
+        let mut t = Small::new(&[5]);
+        t.write(0x820, 0x101);
+        t.write(0x840, high);
+        t.write(0x842, low);
+        t.b.event(1, &mut t.r).unwrap();
+        t
+    };
+    vec![
+        ("first frame on tick 10", started(0, 0).sends(1, 10) == [(10, 5)]),
+        ("first frame on tick 16,777,225", started(0xFF, 0xFFFF).sends(1, 16_777_225) == [(16_777_225, 5)]),
+    ]
+}
+
+/// "Period 10, pause 1 sent on tick 10, resume delay 25 then loaded: repeats on 20 and 30, next
+/// word on 45. Delay 0: next on 20."
+fn resumes() -> Done {
+    let mut done = Vec::new();
     for (delay, seen) in [(25, &[(20, 5), (30, 5), (45, 6)][..]), (0, &[(20, 6)]), (20, &[(20, 5), (30, 5), (40, 6)])] {
         let mut t = Small::new(&[0x0001_0005, 6]);
         t.write(0x822, 0x1AA);
@@ -70,27 +87,34 @@ pub fn all() -> Vec<(&'static str, bool)> {
         let last = seen[seen.len() - 1].0;
         done.push(("resume row", t.sends(11, last) == seen));
     }
-    // "D31 with D16: last. User 1, first and last, ID 15h, data 1234h: A0151234h."
+    done
+}
+
+/// "D31 with D16: last. User 1, first and last, ID 15h, data 1234h: A0151234h."
+fn kept_words() -> Done {
     let mut t = Small::new(&[0x8001_1234]);
     t.write(0x814, 0x15);
     t.write(0x808, 1);
     t.sends(1, 10);
-    done.push(("D31 with D16", t.b.read(0x804) == Ok(0xC000)));
+    let is_last = t.b.read(0x804) == Ok(0xC000);
     t.b.reply(1, frame(0x15, 0x1234, 0), &mut t.r).unwrap();
-    done.push(("A0151234h", t.r[0] == 0xA015_1234));
-    // the whole case, the empty run, and what is no run file
+    vec![("D31 with D16", is_last), ("A0151234h", t.r[0] == 0xA015_1234)]
+}
+
+/// The whole case, the empty run, what is no run file, and a script that opens no board.
+fn files() -> Done {
     let whole = [
         [3, 1, 0, 0, 5, 0, 0, 0x80], [1, 0, 0x0A, 8, 3, 0, 0, 0], [8, 1, 0, 0, 1, 0, 0, 0],
         [1, 0, 8, 8, 1, 0, 0, 0], [5, 0, 0, 0, 30, 0, 0, 0], [48, 0, 0, 0, 5, 0, 0, 0],
     ]
     .concat();
-    done.push(("whole case", runfile::tell(&whole).line == "steps 5 refused 0 frames 3 0 0 0\n"));
     let empty = [8, 0, 0, 0, 0, 0, 0, 0];
-    done.push(("empty run", runfile::tell(&empty).line == "steps 0 refused 0 frames 0 0 0 0\n"));
+    // 8 × count + 8 comes to 8 in 32 bits
     let wraps = [8, 0, 0, 0, 0, 0, 0, 0x20];
-    done.push(("no run files", [&[0; 8][..], &[0; 7], &wraps, &vec![0; 65_537]].iter().all(|f| runfile::tell(f).line == "file 8\n")));
-    // FNV-1a of pools of zeros is a fixed number only if the fill is left out: N 0 refuses
-    let told = script::tell(&[0; 16]);
-    done.push(("closed board", told.text.starts_with("0 refused 1\nend ")));
-    done
+    vec![
+        ("whole case", runfile::tell(&whole).line == "steps 5 refused 0 frames 3 0 0 0\n"),
+        ("empty run", runfile::tell(&empty).line == "steps 0 refused 0 frames 0 0 0 0\n"),
+        ("no run files", [&[0; 8][..], &[0; 7], &wraps, &vec![0; 65_537]].iter().all(|f| runfile::tell(f).line == "file 8\n")),
+        ("closed board", script::tell(&[0; 16]).text.starts_with("0 refused 1\nend ")),
+    ]
 }

@@ -10,10 +10,14 @@
 
 mod answer;
 mod board;
+mod channel;
 mod checks;
 mod corpus;
+mod frame;
+mod map;
 mod runfile;
 mod script;
+mod tally;
 
 use std::io::{Read, Write};
 use std::path::Path;

@@ -1,6 +1,6 @@
 //! The run file of document 01: `run` and `trace`.
 
-use crate::answer::{answer, Answer};
+use crate::answer::{answer, ticks, Answer};
 use crate::board::Board;
 use std::fmt::Write;
 
@@ -70,28 +70,11 @@ impl Bench {
                 answer(board.set(channel, user, buffer, index, b, &mut self.setpoints), |_| Answer::Ok)
             }
             4 => answer(board.event(b as u8, readbacks), |_| Answer::Ok),
-            5 => {
-                let mut sent = Vec::new();
-                for t in 1..=b {
-                    match board.tick(&self.setpoints) {
-                        Ok(frames) => note(&mut sent, t, frames),
-                        Err(n) => return Answer::Refused(n),
-                    }
-                }
-                Answer::Ticks(sent)
-            }
+            5 => ticks(board, &self.setpoints, b),
             6 => answer(board.reply(channel, (a as u64) << 32 | b as u64, readbacks), Answer::Reply),
             7 => answer(board.change_user(b), |_| Answer::Ok),
             _ if b == 1 => answer(board.arm(channel), |_| Answer::Ok),
             _ => answer(board.disarm(channel), |_| Answer::Ok),
-        }
-    }
-}
-
-pub fn note(sent: &mut Vec<(u32, usize, u64)>, t: u32, frames: [Option<u64>; 4]) {
-    for c in 0..4 {
-        if let Some(frame) = frames[c] {
-            sent.push((t, c + 1, frame));
         }
     }
 }

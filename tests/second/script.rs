@@ -14,9 +14,11 @@
 //! long; of the retired calls: 0 own, 1 first short, 2 both empty, 3 the next channel's,
 //! 4 second short, 5 swapped, 6 first long, 7 own words parted one word early.
 
-use crate::answer::{answer, Answer};
-use crate::board::{readable, Board, Did};
-use crate::runfile::{note, number};
+use crate::answer::{answer, ticks, Answer};
+use crate::board::Board;
+use crate::map::readable;
+use crate::runfile::number;
+use crate::tally::Did;
 use std::fmt::Write;
 
 pub const SETPOINTS: usize = 64 * 32;
@@ -87,25 +89,49 @@ impl Bench {
         }
     }
 
+    /// Another opening, which takes the place of the board; the tally goes on.
+    fn reopen(&mut self, n: u32, m: u32, setpoints: usize, readbacks: usize) -> Answer {
+        let (mut opened, said) = Board::open(n, m, setpoints.min(SETPOINTS), readbacks.min(READBACKS));
+        if said.is_ok() {
+            opened.tally.add(Did::opened_again);
+        }
+        opened.tally.join(&self.board.tally);
+        self.board = opened;
+        answer(said, |_| Answer::Ok)
+    }
+
+    fn retired(&mut self, c: u32, code: u8, is_length: bool) -> Answer {
+        let two = self.two(c, code);
+        let readbacks = &self.readbacks;
+        let [first, second] = two.map(|(from, len)| &readbacks[from..from + len]);
+        let told = self.board.retired(c, first, second);
+        if is_length {
+            return answer(told, |(_, length)| Answer::Length(length));
+        }
+        // "gives the empty part when refused"
+        Answer::Part(told.map_or(Vec::new(), |(is_second, length)| {
+            (if is_second { second } else { first })[..length].to_vec()
+        }))
+    }
+
+    fn poke(&mut self, is_readback: bool, at: usize, word: u32) -> Answer {
+        let pool = if is_readback { &mut self.readbacks } else { &mut self.setpoints };
+        match pool.get_mut(at) {
+            Some(w) => {
+                *w = word;
+                Answer::Ok
+            }
+            None => Answer::None,
+        }
+    }
+
     pub fn step(&mut self, r: &[u8]) -> Answer {
         let (kind, c, code, buffer) = (r[0], r[1] as u32, r[2], r[3] as u32);
         let (x, y, z) = (number(r, 4), number(r, 8), number(r, 12));
         let (lent_s, lent_r) = (64 * self.board.n as usize, 8 * self.board.m as usize);
-        let two = self.two(c, code);
         let Bench { board, setpoints, readbacks } = self;
         match kind {
-            0 => {
-                let (s, r) = ((z as usize & 0xFFFF).min(SETPOINTS), (z as usize >> 16).min(READBACKS));
-                let (mut opened, said) = Board::open(x, y, s, r);
-                if said.is_ok() {
-                    opened.note(Did::opened_again);
-                }
-                for (new, old) in opened.tally.0.iter_mut().zip(&board.tally.0) {
-                    *new += old;
-                }
-                *board = opened;
-                answer(said, |_| Answer::Ok)
-            }
+            0 => self.reopen(x, y, z as usize & 0xFFFF, z as usize >> 16),
             1 => answer(board.write(x, y as u16, lend(readbacks, setpoints, lent_r, code)), |_| Answer::Ok),
             2 => answer(board.read(x), Answer::Value),
             3 => answer(board.set(c, x, buffer, y, z, lend(setpoints, readbacks, lent_s, code)), |_| Answer::Ok),
@@ -115,40 +141,12 @@ impl Bench {
                 let frame = (z as u64) << 32 | y as u64;
                 answer(board.reply(c, frame, lend(readbacks, setpoints, lent_r, code)), Answer::Reply)
             }
-            7 | 8 => {
-                let [first, second] = two.map(|(from, len)| &readbacks[from..from + len]);
-                let told = board.retired(c, first, second);
-                if kind == 8 {
-                    return answer(told, |(_, length)| Answer::Length(length));
-                }
-                // "gives the empty part when refused"
-                Answer::Part(told.map_or(Vec::new(), |(is_second, length)| {
-                    (if is_second { second } else { first })[..length].to_vec()
-                }))
-            }
-            9 => {
-                let mut sent = Vec::new();
-                for t in 1..=x & 0xFFFF {
-                    match board.tick(lend(setpoints, readbacks, lent_s, code)) {
-                        Ok(frames) => note(&mut sent, t, frames),
-                        Err(n) => return Answer::Refused(n),
-                    }
-                }
-                Answer::Ticks(sent)
-            }
+            7 | 8 => self.retired(c, code, kind == 8),
+            9 => ticks(board, lend(setpoints, readbacks, lent_s, code), x & 0xFFFF),
             10 => answer(board.event(x as u8, lend(readbacks, setpoints, lent_r, code)), |_| Answer::Ok),
             11 => answer(board.change_user(x), |_| Answer::Ok),
             12 => Answer::Level(board.interrupt_level()),
-            13 => {
-                let pool = if c == 0 { setpoints } else { readbacks };
-                match pool.get_mut(x as usize) {
-                    Some(word) => {
-                        *word = y;
-                        Answer::Ok
-                    }
-                    None => Answer::None,
-                }
-            }
+            13 => self.poke(c != 0, x as usize, y),
             _ => Answer::None,
         }
     }

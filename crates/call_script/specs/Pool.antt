@@ -1,4 +1,4 @@
--- How the pools are filled, and their digest.
+-- The two pools of words (tests/CALLS.md): how they are filled (Header), and their digest (The end).
 use Prim.Native.Nat.{ℕ, _+_, _*_, _/_, _%_, _^_, _≤_}
 use mathlib.Core.Path.{_≡_}
 use mathlib.Core.List.{List}
@@ -9,7 +9,7 @@ use lib.Bits.{bitXor}
 abbrev pub Counts : ℕ → List ℕ → Type 0
 Counts n xs = (n ≤ length xs) × (n ≡ length (take n xs))
 
--- xorshift32: left by 13, right by 17, left by 5, in 32 bits
+-- "in 32 bits, s ^= s << 13, s ^= s >> 17, s ^= s << 5"
 unfoldable pub left13 : ℕ → ℕ
 left13 s = bitXor s (s * 2 ^ 13 % 2 ^ 32)
 
@@ -22,7 +22,7 @@ left5 s = bitXor s (s * 2 ^ 5 % 2 ^ 32)
 unfoldable pub xorshift : ℕ → ℕ
 xorshift s = left5 (right17 (left13 s))
 
--- FNV-1a in 64 bits: the product by its prime, and one byte
+-- "the FNV-1a hash in 64 bits (.., prime 100000001B3h)": the product by its prime, and one byte
 unfoldable pub timesPrime : ℕ → ℕ
 timesPrime x = x * (2 ^ 40 + 435) % 2 ^ 64
 

@@ -1,19 +1,12 @@
-// The two pools of words: how they are filled, which parts of them are lent, and their digest.
+// The two pools of words: how they are filled, their parts, and their digest (tests/CALLS.md, Header and The end).
 ghost use mathlib.Core.Path.{_≡_};
-ghost use Prim.Native.Nat.{_≤_, _*_};
+ghost use Prim.Native.Nat.{_≤_};
 ghost use Rattle.call_script.specs.Pool.{Counts, xorshift, hashed, timesPrime};
 
 // A part of a pool: its first word and its length.
 pub struct Span {
     pub from: usize,
     pub length: usize,
-}
-
-fn words_at(from: usize, length: usize) -> Span {
-    Span {
-        from: from,
-        length: length,
-    }
 }
 
 fn least(a: usize, b: usize) -> usize
@@ -23,10 +16,27 @@ fn least(a: usize, b: usize) -> usize
 }
 
 // As many words as asked for, or all that there are. The contract is what lending `&words[..r]` asks.
-pub fn at_most(words: &[u32], n: usize) -> usize
+fn at_most(words: &[u32], n: usize) -> usize
     ensures { λ r. ⌜ Counts r (now (words .entry)) ⌝ }
 {
     least(n, words.len())
+}
+
+// The first words of a pool, as many as asked for or all that there are.
+pub fn front<'a>(pool: &'a [u32], n: usize) -> &'a [u32] {
+    let i = at_most(pool, n);
+    &pool[..i]
+}
+
+pub fn front_mut<'a>(pool: &'a mut [u32], n: usize) -> &'a mut [u32] {
+    let i = at_most(pool, n);
+    &mut pool[..i]
+}
+
+// The words of a span, as far as the pool has them.
+pub fn part<'a>(pool: &'a [u32], span: Span) -> &'a [u32] {
+    let from = at_most(pool, span.from);
+    front(&pool[from..], span.length)
 }
 
 // One step of xorshift32.
@@ -39,15 +49,15 @@ fn xorshifted(s: u32) -> u32
 }
 
 // The state that a seed starts from.
-pub fn seeded(seed: u32) -> u32 {
+fn seeded(seed: u32) -> u32 {
     if seed == 0 {
         return 2463534242;
     }
     seed
 }
 
-// Fills a pool through a mask, and answers the state after it.
-pub fn fill(words: &mut [u32], state: u32, mask: u32) -> u32 {
+// Fills one pool through a mask, and answers the state after it.
+fn fill_one(words: &mut [u32], state: u32, mask: u32) -> u32 {
     let mut s = state;
     let mut i: usize = 0;
     while i < words.len() {
@@ -58,108 +68,14 @@ pub fn fill(words: &mut [u32], state: u32, mask: u32) -> u32 {
     s
 }
 
-// How many words a lent code stands for, of a pool or, at code 3, of the other one.
-pub fn lent_length(code: u8, right: usize, pool: usize, other: usize) -> usize {
-    if code == 3 {
-        return least(right, other);
-    }
-    let whole = least(right, pool);
-    if code == 2 {
-        return 0;
-    }
-    if code == 1 {
-        return one_fewer(whole);
-    }
-    if code == 4 {
-        if whole < pool {
-            return whole + 1;
-        }
-    }
-    whole
-}
-
-// One fewer, and 0 for 0.
-fn one_fewer(x: usize) -> usize
-    ensures { λ r. ⌜ r ≤ x ⌝ }
-{
-    if x == 0 {
-        return 0;
-    }
-    x - 1
-}
-
-// A channel's place from 0; 0 for a number that is no channel's.
-fn place_of(channel: u8) -> usize {
-    if channel == 0 {
-        return 0;
-    }
-    if 4 < channel {
-        return 0;
-    }
-    (channel - 1) as usize
-}
-
-// Where the two buffers of the channel at a place from 0 start.
-fn start_of(m: u32, place: usize) -> usize
-    ensures { λ r. ⌜ r ≤ 6 * m ⌝ }
-{
-    let depth = m as usize;
-    match place {
-        0 => 0,
-        1 => depth * 2,
-        2 => depth * 4,
-        _ => depth * 6,
-    }
-}
-
-// The place after it; 0 after 3.
-fn place_after(place: usize) -> usize {
-    if place < 3 {
-        return place + 1;
-    }
-    0
-}
-
-// The first buffer lent to a retired call, by its lent code.
-pub fn first_buffer(code: u8, m: u32, channel: u8) -> Span {
-    let depth = m as usize;
-    let place = place_of(channel);
-    let own = start_of(m, place);
-    match code {
-        1 | 7 => words_at(own, one_fewer(depth)),
-        2 => words_at(own, 0),
-        3 => words_at(start_of(m, place_after(place)), depth),
-        5 => words_at(own + depth, depth),
-        6 => words_at(own, depth + 1),
-        _ => words_at(own, depth),
-    }
-}
-
-// The second one.
-pub fn second_buffer(code: u8, m: u32, channel: u8) -> Span {
-    let depth = m as usize;
-    let place = place_of(channel);
-    let own = start_of(m, place);
-    match code {
-        2 => words_at(own + depth, 0),
-        3 => words_at(start_of(m, place_after(place)) + depth, depth),
-        4 => words_at(own + depth, one_fewer(depth)),
-        5 => words_at(own, depth),
-        7 => words_at(own + one_fewer(depth), depth + 1),
-        _ => words_at(own + depth, depth),
-    }
-}
-
-// The words of a span, as far as the pool has them.
-pub fn part<'a>(pool: &'a [u32], span: Span) -> &'a [u32] {
-    let from = at_most(pool, span.from);
-    let rest = &pool[from..];
-    let n = at_most(rest, span.length);
-    &rest[..n]
+// Fills the setpoint pool through the mask, then the readback pool without it.
+pub fn fill(setpoints: &mut [u32], readbacks: &mut [u32], seed: u32, mask: u32) {
+    let s = fill_one(setpoints, seeded(seed), mask);
+    fill_one(readbacks, s, 0xffff_ffff);
 }
 
 // Where an FNV-1a digest starts from.
-pub const OFFSET: u64 = 0xcbf2_9ce4_8422_2325;
+const OFFSET: u64 = 0xcbf2_9ce4_8422_2325;
 
 // A number times FNV's prime, 2^40 + 435, in 64 bits.
 fn times_prime(x: u64) -> u64
@@ -188,7 +104,7 @@ fn hashed_word(h: u64, word: u32) -> u64 {
 }
 
 // The digest goes on over these words.
-pub fn digest(words: &[u32], h: u64) -> u64 {
+fn hashed_words(words: &[u32], h: u64) -> u64 {
     let mut d = h;
     let mut i: usize = 0;
     while i < words.len() {
@@ -198,7 +114,12 @@ pub fn digest(words: &[u32], h: u64) -> u64 {
     d
 }
 
-// Sets a word, if the pool has it.
+// The digest of both pools.
+pub fn digest(setpoints: &[u32], readbacks: &[u32]) -> u64 {
+    hashed_words(readbacks, hashed_words(setpoints, OFFSET))
+}
+
+// Sets a word, if the pool has it, and says whether it does.
 pub fn set(pool: &mut [u32], at: u32, word: u32) -> bool {
     let i = at as usize;
     if i < pool.len() {

@@ -1,14 +1,26 @@
-// A script's numbers, all little-endian, and its records.
+// A script's header and its records (tests/CALLS.md). All numbers are little-endian.
 ghost use mathlib.Core.Path.{_≡_};
-ghost use Prim.Native.Nat.{_+_, _≤_};
-ghost use lib.ListN.{length, getD};
-ghost use Rattle.call_script.specs.Script.{isWhole, wordAt};
+ghost use lib.ListN.{getD};
+ghost use Rattle.call_script.specs.Script.{recordsOf, wordAt, headerOf, recordAt};
 
 // The header, and each record.
-pub const SIZE: usize = 16;
+const SIZE: usize = 16;
 
 // The most bytes a script has.
-pub const MOST: usize = 65536;
+const MOST: usize = 65536;
+
+// What a script's length says.
+pub enum Records {
+    Count(u16),
+    Bad,
+}
+
+pub struct Header {
+    pub n: u32,
+    pub m: u32,
+    pub seed: u32,
+    pub mask: u32,
+}
 
 pub struct Record {
     pub kind: u8,
@@ -20,17 +32,20 @@ pub struct Record {
     pub z: u32,
 }
 
-// Whether a script can be this long.
-pub fn is_whole(size: usize) -> bool
-    ensures { λ r. ⌜ r ≡ isWhole size ⌝ }
+// How many records a script of this length has, if it can be this long.
+pub fn records_of(size: usize) -> Records
+    ensures { λ r. ⌜ r ≡ recordsOf size ⌝ }
 {
     if size < SIZE {
-        return false;
+        return Records::Bad;
     }
     if MOST < size {
-        return false;
+        return Records::Bad;
     }
-    size % SIZE == 0
+    if size % SIZE != 0 {
+        return Records::Bad;
+    }
+    Records::Count((size / SIZE - 1) as u16)
 }
 
 // A byte of the script, and 0 past its end.
@@ -41,25 +56,39 @@ fn byte(script: &[u8], at: usize) -> u8
 }
 
 // A number of 32 bits.
-pub fn word(script: &[u8], at: usize) -> u32
-    requires { ⌜ at + 4 ≤ length (now script) ⌝ }
+fn word(script: &[u8], at: u32) -> u32
     ensures { λ r. ⌜ r ≡ wordAt (now (script .entry)) at ⌝ }
 {
-    let a = byte(script, at) as u32;
-    let b = byte(script, at + 1) as u32;
-    let c = byte(script, at + 2) as u32;
-    let d = byte(script, at + 3) as u32;
+    let i = at as usize;
+    let a = byte(script, i) as u32;
+    let b = byte(script, i + 1) as u32;
+    let c = byte(script, i + 2) as u32;
+    let d = byte(script, i + 3) as u32;
     a + b * 0x100 + c * 0x1_0000 + d * 0x100_0000
 }
 
-pub fn parse(script: &[u8], at: usize) -> Record
-    requires { ⌜ at + 16 ≤ length (now script) ⌝ }
+pub fn header_of(script: &[u8]) -> Header
+    ensures { λ r. ⌜ r ≡ headerOf (now (script .entry)) ⌝ }
 {
+    Header {
+        n: word(script, 0),
+        m: word(script, 4),
+        seed: word(script, 8),
+        mask: word(script, 12),
+    }
+}
+
+// A record by its number from 1.
+pub fn record_at(script: &[u8], number: u16) -> Record
+    ensures { λ r. ⌜ r ≡ recordAt (now (script .entry)) number ⌝ }
+{
+    let at = number as u32 * 16;
+    let i = at as usize;
     Record {
-        kind: byte(script, at),
-        channel: byte(script, at + 1),
-        lent: byte(script, at + 2),
-        buffer: byte(script, at + 3),
+        kind: byte(script, i),
+        channel: byte(script, i + 1),
+        lent: byte(script, i + 2),
+        buffer: byte(script, i + 3),
         x: word(script, at + 4),
         y: word(script, at + 8),
         z: word(script, at + 12),

@@ -1,101 +1,103 @@
 // Reads a run file from standard input, makes its records' calls on one board and prints each answer, then what the memory holds. One byte past 65,536 is enough to know a longer file.
 use board_state::Board;
-use call_script::Answer;
-use call_script::text;
 use libc::STDIN_FILENO;
-use libc::STDOUT_FILENO;
 use records::RecordsLength;
 use records::Request;
-ghost use Prim.Native.Nat.{_+_, _*_, _≤_};
-ghost use lib.ListN.{length};
+use refusal::Refusal;
 
-// Writes the first n bytes of the line buffer.
-fn emit(out: &[u8], n: usize) {
-    if n <= out.len() {
-        io::write_all(STDOUT_FILENO, &out[..n]);
+// A record's call, and the board after it.
+fn call(b: Board, setpoints: &mut [u32], readbacks: &mut [u32], q: Request) -> Board {
+    match q {
+        Request::Write { address, value } => {
+            printed_calls::write_register(b, readbacks, address, value)
+        }
+        Request::Read { address } => printed_calls::read_register(b, address),
+        Request::Setpoint {
+            number,
+            user,
+            buffer,
+            index,
+            word,
+        } => printed_calls::write_setpoint(b, setpoints, number, user, buffer, index, word),
+        Request::Event { code } => printed_calls::event(b, readbacks, code),
+        Request::Ticks { count } => printed_calls::ticks(b, setpoints, count),
+        Request::Reply { number, frame } => printed_calls::reply(b, readbacks, number, frame),
+        Request::User { user } => printed_calls::change_user(b, user),
+        Request::Arm { number } => printed_calls::arm(b, number),
+        Request::Disarm { number } => printed_calls::disarm(b, number),
+        Request::Bad => {
+            printed_calls::refused(Refusal::BadRecord);
+            b
+        }
     }
 }
 
-// Ends the line, and writes it.
-fn end_line(out: &mut [u8], at: usize) {
-    let n = text::push(out, at, b'\n');
-    emit(out, n);
-}
-
-// As many ticks, each tick's frames written as it comes.
-fn ticks(b: Board, setpoints: &[u32], count: u32, out: &mut [u8]) -> Board {
-    let mut board = b;
-    let mut t: u32 = 0;
-    while t < count {
-        t += 1;
-        let w = board::tick(board, setpoints);
-        let next = w.board;
-        let frames = w.frames;
-        board = next;
-        let n = call_script::frames_text(out, 0, t, frames);
-        emit(out, n);
-    }
-    board
-}
-
-// Begins a record's line: its number and its answer.
-fn begin_line(out: &mut [u8], number: u32, answer: Answer) {
-    let at = text::decimal(out, 0, number);
-    let n = call_script::answer_text(out, at, answer);
-    emit(out, n);
-}
-
-// One record: its line, and the board after it.
-fn record(
+// One record's line.
+fn line(
     b: Board,
     setpoints: &mut [u32],
     readbacks: &mut [u32],
     q: Request,
-    out: &mut [u8],
-    number: u32,
+    number: usize,
 ) -> Board {
-    let w = trace_lines::call(b, setpoints, readbacks, q);
-    let board = w.board;
-    let answer = w.answer;
-    begin_line(out, number, answer);
-    let after = ticks(board, setpoints, trace_lines::tick_count(q), out);
-    end_line(out, 0);
-    after
+    output::decimal(number as u64);
+    let board = call(b, setpoints, readbacks, q);
+    output::end_line();
+    board
 }
 
 // Every record of the part.
-fn play(
-    b: Board,
-    part: &[u8],
-    setpoints: &mut [u32],
-    readbacks: &mut [u32],
-    out: &mut [u8],
-) -> Board {
+fn play(b: Board, part: &[u8], setpoints: &mut [u32], readbacks: &mut [u32]) -> Board {
     let mut board = b;
-    let mut number: u32 = 0;
-    while number < 8192 {
-        let a = number as usize * 8;
+    let mut number: usize = 0;
+    while number < part.len() / 8 {
+        let a = number * 8;
         let e = a + 8;
-        if part.len() < e {
-            return board;
-        }
         let q = records::decode(&part[a..e]);
         number += 1;
-        board = record(board, setpoints, readbacks, q, out, number);
+        board = line(board, setpoints, readbacks, q, number);
     }
     board
+}
+
+// A word by its index; nothing for 0.
+fn word(index: usize, w: u32) {
+    if w != 0 {
+        output::numbered(b" ", index as u64);
+        output::text(b"=");
+        output::hex_word(w);
+    }
+}
+
+// Every word that is not 0.
+fn words(memory: &[u32]) {
+    let mut i: usize = 0;
+    while i < memory.len() {
+        word(i, memory[i]);
+        i += 1;
+    }
+}
+
+// The line after the records: the readback memory, and the retired counts.
+fn end(b: Board, readbacks: &[u32]) {
+    output::text(b"end");
+    words(readbacks);
+    printed_calls::retired_counts(b, readbacks, b" r");
+    output::end_line();
 }
 
 // The records on a zeroed board of depths 16 and 64, and the last line.
 fn trace(part: &[u8]) {
     let mut setpoints = [0u32; 1024];
     let mut readbacks = [0u32; 512];
-    let mut out = [0u8; 8192];
     let w = board::open(16, 64, &setpoints, &readbacks);
     let b = w.board;
-    let c = play(b, part, &mut setpoints, &mut readbacks, &mut out);
-    let n = trace_lines::end_text(&mut out, c, &readbacks);
-    end_line(&mut out, n);
+    let c = play(b, part, &mut setpoints, &mut readbacks);
+    end(c, &readbacks);
+}
+
+fn refused() {
+    output::text(b"file 8\n");
 }
 
 fn main() {
@@ -104,8 +106,6 @@ fn main() {
     let answer = records::records_length(&file[..n]);
     match answer {
         RecordsLength::Bytes(_) => trace(records::records(&file[..n])),
-        RecordsLength::Refused(_) => {
-            io::write_all(STDOUT_FILENO, b"file 8\n");
-        }
+        RecordsLength::Refused(_) => refused(),
     }
 }

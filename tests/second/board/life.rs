@@ -1,0 +1,251 @@
+//! What happens on a channel of the board: "A channel's life" of document 01, whose quotations
+//! these are.
+
+use super::Board;
+use crate::channel::{hold, status_of, Function, Hold, ACTIVE, COUNT, EE, ENABLE, GE, ID, RUN, SWITCH};
+use crate::frame::frame;
+use crate::tally::Did;
+
+/// What one event or command asks of a channel.
+pub struct Asked {
+    pub group_end: bool,
+    pub start: bool,
+    /// Resume 1–4, and 5 for Commands D1.
+    pub resume: [bool; 6],
+    pub by_command: bool,
+}
+
+impl Board {
+    /// "A condition enabled in 00 as it happens sets the channel's Main bit in both."
+    pub(super) fn latch(&mut self, c: usize, bit: u16) {
+        let w = &mut self.ch[c].w;
+        w[1] |= bit;
+        w[2] |= bit;
+        if w[ENABLE] & bit != 0 {
+            self.main[0] |= 0x10 << c;
+            self.main[1] |= 0x10 << c;
+            self.tally.add(Did::main_bit_raised);
+        } else {
+            self.tally.add(Did::main_bit_not_enabled);
+        }
+    }
+
+    /// "latch EE if the channel isn't idle and the last word wasn't sent since its latest
+    /// Start; idle"
+    pub(super) fn end_function(&mut self, c: usize, why: Did) {
+        if let Some(f) = self.ch[c].function.take() {
+            if !f.ended {
+                self.tally.add(why);
+                self.latch(c, EE);
+            }
+        }
+    }
+
+    fn group_end(&mut self, c: usize, readbacks: &mut [u32]) {
+        self.tally.add(if self.ch[c].function.is_some() { Did::group_end_not_idle } else { Did::group_end_idle });
+        if !self.ch[c].armed {
+            self.tally.add(Did::group_end_disarmed);
+        }
+        self.end_function(c, Did::ee_by_group_end);
+        let (m, user, ch) = (self.m as usize, self.user as usize, &mut self.ch[c]);
+        // "02000000h goes after the stored readbacks if there is space"
+        let active = ch.active_readback();
+        if ch.stored[active] < m {
+            readbacks[(2 * c + active) * m + ch.stored[active]] = 0x0200_0000;
+            self.tally.add(Did::end_word);
+        } else {
+            self.tally.add(Did::end_word_without_space);
+        }
+        // "readback buffers switch, the new one empty"
+        ch.w[ACTIVE] ^= 1 << 8;
+        ch.stored[1 - active] = 0;
+        // "users with Switch D0 set switch and the bits clear"
+        for u in 0..8 {
+            if ch.w[SWITCH + u] == 1 {
+                ch.w[ACTIVE] ^= 1 << u;
+                ch.w[SWITCH + u] = 0;
+                self.tally.add(if u + 1 == user { Did::switch_current_user } else { Did::switch_other_user });
+            }
+        }
+        // "the setpoint count is shown, then cleared"
+        if ch.count != 0 {
+            self.tally.add(Did::count_shown_not_zero);
+        }
+        if ch.count > 0xFFFF {
+            self.tally.add(Did::count_past_16_bits);
+        }
+        ch.w[COUNT] = (ch.count >> 16) as u16;
+        ch.w[COUNT + 1] = ch.count as u16;
+        ch.count = 0;
+        self.latch(c, GE);
+    }
+
+    /// "It loads the current user's start delay (0 for a command) plus 10. The first setpoint
+    /// leaves on the tick that brings the count to 0. [...] From idle it latches RUN; otherwise
+    /// the function restarts, with no RUN."
+    fn start(&mut self, c: usize, by_command: bool) {
+        self.tally.add(if by_command { Did::start_by_command } else { Did::start_by_event });
+        let ch = &mut self.ch[c];
+        if !ch.armed {
+            self.tally.add(Did::start_disarmed);
+            return;
+        }
+        let delay = if by_command { 0 } else { ch.delay(0, self.user) };
+        let mut f = Function { due: self.now + delay + 10, index: 0, held: None, resume: None, ended: false, sent: None, fresh: true };
+        if let Some(old) = ch.function.take() {
+            f.sent = old.sent;
+            self.tally.add(Did::restart);
+            if old.ended {
+                self.tally.add(Did::restart_after_last);
+            } else if old.held.is_some() {
+                self.tally.add(Did::restart_from_pause);
+            }
+            ch.function = Some(f);
+        } else {
+            ch.function = Some(f);
+            self.tally.add(Did::run_latched);
+            self.latch(c, RUN);
+        }
+    }
+
+    /// "Resume k (its event, for pause k) or Commands D1 (VME pause only) loads the current
+    /// user's delay (0 for D1). [...] Further resumes are ignored meanwhile."
+    fn resume(&mut self, c: usize, k: u32) {
+        let (now, user, ch) = (self.now, self.user, &mut self.ch[c]);
+        let delay = if k == 5 { 0 } else { ch.delay(k, user) };
+        let Some(f) = &mut ch.function else { return };
+        match f.held {
+            Some((_, Hold::Pause(p))) if p != k => self.tally.add(Did::resume_of_other_pause),
+            Some((_, Hold::Pause(_))) if f.resume.is_some() => self.tally.add(Did::resume_while_resuming),
+            Some((_, Hold::Pause(_))) => {
+                // the delay's ticks, 9 silent ones, "the next word leaves on the 10th"
+                f.resume = Some(now + delay + 10);
+                let names = [Did::resume_1, Did::resume_2, Did::resume_3, Did::resume_4, Did::resume_vme];
+                self.tally.add(names[k as usize - 1]);
+            }
+            _ => {}
+        }
+    }
+
+    /// "One event or command does Group End, Start, Resume in that order."
+    pub(super) fn act(&mut self, c: usize, asked: Asked, readbacks: &mut [u32]) {
+        if asked.group_end {
+            self.tally.add(if asked.by_command { Did::group_end_by_command } else { Did::group_end_by_event });
+            self.group_end(c, readbacks);
+        }
+        if asked.start {
+            if asked.group_end && self.ch[c].armed {
+                self.tally.add(Did::group_end_then_start);
+            }
+            if let Some(Function { held: Some((_, Hold::Pause(p))), .. }) = self.ch[c].function {
+                if asked.resume[p as usize] {
+                    self.tally.add(Did::start_then_resume);
+                }
+            }
+            self.start(c, asked.by_command);
+        }
+        for k in 1..=5 {
+            if asked.resume[k] {
+                self.resume(c, k as u32);
+            }
+        }
+    }
+
+    /// Whether the channel sends on this tick: the word that is due (true), or a repeat.
+    fn due(&mut self, c: usize) -> Option<bool> {
+        let f = self.ch[c].function.as_ref()?;
+        match f.resume {
+            Some(at) if self.now == at => Some(true),
+            // "then 9 ticks are silent"
+            Some(at) if self.now + 10 > at => {
+                if self.now == f.due {
+                    self.tally.add(Did::repeat_dropped_in_silence);
+                }
+                None
+            }
+            _ if self.now != f.due => None,
+            _ => Some(f.held.is_none()),
+        }
+    }
+
+    /// The word that is due, from memory.
+    fn next_word(&mut self, c: usize, at: usize, setpoints: &[u32]) -> Option<u32> {
+        let f = self.ch[c].function.as_mut()?;
+        let word = setpoints.get(at).copied().unwrap_or(0);
+        let held = hold(word, f.index, self.n);
+        let bits = word >> 16 & 0x1F;
+        match held {
+            Some(Hold::Last) => {
+                f.ended = true;
+                self.tally.add(if word >> 31 == 1 { Did::last_by_d31 } else { Did::last_by_depth });
+                if bits != 0 {
+                    self.tally.add(Did::last_over_pause_bits);
+                }
+            }
+            Some(Hold::Pause(_)) if bits & (bits - 1) != 0 => self.tally.add(Did::two_pause_bits),
+            _ => {}
+        }
+        f.held = held.map(|h| (word, h));
+        f.index += 1;
+        f.resume = None;
+        self.tally.add(Did::first_sending);
+        Some(word)
+    }
+
+    /// "Repeats send the word kept from its first sending."
+    fn repeat(&mut self, c: usize, at: usize, setpoints: &[u32]) -> Option<u32> {
+        let f = self.ch[c].function.as_ref()?;
+        let (kept, h) = f.held?;
+        self.tally.add(if h == Hold::Last { Did::repeat_of_last } else { Did::repeat_of_pause });
+        if let Some(at) = f.resume {
+            self.tally.add(Did::repeat_in_resume_delay);
+            if self.now + 10 == at {
+                self.tally.add(Did::repeat_on_last_delay_tick);
+            }
+        }
+        if setpoints.get(at.wrapping_sub(1)).is_some_and(|&w| w as u16 != kept as u16) {
+            self.tally.add(Did::kept_word_differs_from_memory);
+        }
+        Some(kept)
+    }
+
+    pub(super) fn tick_channel(&mut self, c: usize, setpoints: &[u32]) -> Option<u64> {
+        let is_next = self.due(c)?;
+        let (now, user) = (self.now, self.user);
+        let index = self.ch[c].function.as_ref()?.index;
+        let at = self.word_at(c, user, self.ch[c].active_setpoint(user), index);
+        let word = if is_next { self.next_word(c, at, setpoints)? } else { self.repeat(c, at, setpoints)? };
+        let ch = &mut self.ch[c];
+        let period = ch.period();
+        let f = ch.function.as_mut()?;
+        f.fresh = false;
+        // "After a send the next follows one period later."
+        f.due = now + period;
+        // "D31 first send of the function's first word, D30 paused, D29 last, D28–D26 user less 1"
+        let first = ((is_next && index == 0) as u32) << 31;
+        let held = f.held.map(|(_, h)| h);
+        let kind = match held {
+            Some(Hold::Last) => 1 << 29,
+            Some(Hold::Pause(_)) => 1 << 30,
+            None => 0,
+        };
+        f.sent = Some((first | kind | (user - 1) << 26, 0));
+        // "The count takes every send, repeats too, and stays at FFFFFFh."
+        ch.count = (ch.count + 1).min(0xFF_FFFF);
+        // "the register's Frame ID, D15–D0 of the word, auxiliary 0"
+        let sent = frame(ch.w[ID] as u8, word as u16, 0);
+        if let Some(h) = held.filter(|_| is_next) {
+            self.latch_hold(c, h);
+        }
+        Some(sent)
+    }
+
+    /// "First sending of the last word since Start latches EOF [...] A pause latches its bit once".
+    fn latch_hold(&mut self, c: usize, h: Hold) {
+        self.tally.add(match h {
+            Hold::Last => Did::eof_latched,
+            Hold::Pause(k) => [Did::pause_1, Did::pause_2, Did::pause_3, Did::pause_4, Did::pause_vme][k as usize - 1],
+        });
+        self.latch(c, status_of(h));
+    }
+}

@@ -1,0 +1,98 @@
+//! Replies, and the readbacks that are kept of them. Quotations are document 01's.
+
+use super::Board;
+use crate::channel::{Function, CRC};
+use crate::frame::{badly_framed, crc};
+use crate::tally::Did;
+
+#[derive(Clone, Copy, PartialEq, Debug)]
+pub enum Reply {
+    Kept,
+    Lost,
+    Unasked,
+}
+
+impl Board {
+    /// Why a reply is unasked, if it is: "A reply is kept if not idle, a setpoint was sent since
+    /// idle, and fewer than six replies have followed the last such send; else it is "unasked"."
+    fn unasked(&self, c: usize) -> Option<Did> {
+        match self.ch[c].function {
+            None => Some(Did::unasked_idle),
+            Some(Function { sent: None, .. }) => Some(Did::unasked_before_send),
+            Some(Function { sent: Some((_, 6)), .. }) => Some(Did::unasked_seventh),
+            Some(_) => None,
+        }
+    }
+
+    /// Refusals 1, 2, 7.
+    pub fn reply(&mut self, c: u32, reply: u64, readbacks: &mut [u32]) -> Result<Reply, u8> {
+        self.readbacks_fit(readbacks).inspect_err(|_| self.tally.add(Did::reply_refused_1))?;
+        let c = Board::channel(c)?;
+        if badly_framed(reply) {
+            return Err(7);
+        }
+        let wrong = crc((reply >> 10) as u32) != (reply >> 2) as u8;
+        if let Some(why) = self.unasked(c) {
+            self.tally.add(why);
+            if wrong {
+                self.tally.add(Did::crc_wrong_unasked);
+            }
+            return Ok(Reply::Unasked);
+        }
+        // "D24 CRC wrong, D23–D16 ID, D15–D0 data"
+        let answer = self.store(c, (wrong as u32) << 24 | (reply >> 18) as u32 & 0x00FF_FFFF, readbacks);
+        // "A wrong CRC, kept or lost, latches CRC."
+        if wrong {
+            self.tally.add(if answer == Reply::Kept { Did::crc_wrong_kept } else { Did::crc_wrong_lost });
+            self.latch(c, CRC);
+        }
+        Ok(answer)
+    }
+
+    /// A reply that is asked for: kept, or lost. "If the buffer is full it is "lost", and counts
+    /// among the six."
+    fn store(&mut self, c: usize, low: u32, readbacks: &mut [u32]) -> Reply {
+        let (m, ch) = (self.m as usize, &mut self.ch[c]);
+        let active = ch.active_readback();
+        let f = ch.function.as_mut().unwrap();
+        if f.fresh {
+            self.tally.add(Did::kept_in_new_start_delay);
+        }
+        let sent = f.sent.as_mut().unwrap();
+        sent.1 += 1;
+        if ch.stored[active] >= m {
+            self.tally.add(Did::lost);
+            return Reply::Lost;
+        }
+        // "D31–D26 describe the last send"
+        let tag = sent.0;
+        readbacks[(2 * c + active) * m + ch.stored[active]] = tag | low;
+        ch.stored[active] += 1;
+        self.tally.add(Did::kept);
+        for (bit, did) in [(31, Did::kept_first), (30, Did::kept_paused), (29, Did::kept_last)] {
+            if tag >> bit & 1 == 1 {
+                self.tally.add(did);
+            }
+        }
+        Reply::Kept
+    }
+
+    /// Refusals 1, 2: the length of the part, and whether it is of the second buffer.
+    /// "the answer is the stored part of the inactive one itself, by count, without the end word"
+    pub fn retired(&mut self, c: u32, first: &[u32], second: &[u32]) -> Result<(bool, usize), u8> {
+        if first.len() as u64 != self.m as u64 || second.len() as u64 != self.m as u64 {
+            self.tally.add(Did::retired_refused_1);
+            return Err(1);
+        }
+        let ch = &self.ch[Board::channel(c)?];
+        let inactive = 1 - ch.active_readback();
+        let length = ch.stored[inactive];
+        self.tally.add(if length == 0 { Did::part_empty } else { Did::part_not_empty });
+        Ok((inactive == 1, length))
+    }
+
+    /// The retired count of a channel (0–3), as its own buffers would show it.
+    pub fn retired_count(&self, c: usize) -> usize {
+        self.ch[c].stored[1 - self.ch[c].active_readback()]
+    }
+}

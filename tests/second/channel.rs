@@ -1,0 +1,95 @@
+//! One channel: its registers, and the function that it plays. Quotations are document 01's.
+//!
+//! Time is absolute: a function knows the tick on which its next frame leaves, counted since the
+//! board was opened. Registers are kept as the words that the map shows, at half their offset.
+
+// "Channel status: D15 RUN, D14 EOF, D13 GE, D12 EE, D11–D8 pauses 4–1, D7 VME pause, D2 CRC."
+pub const RUN: u16 = 1 << 15;
+pub const EOF: u16 = 1 << 14;
+pub const GE: u16 = 1 << 13;
+pub const EE: u16 = 1 << 12;
+pub const CRC: u16 = 1 << 2;
+
+/// What makes a word repeat. Pause 5 is the VME pause.
+#[derive(Clone, Copy, PartialEq)]
+pub enum Hold {
+    Last,
+    Pause(u32),
+}
+
+/// "Word bits in order of precedence: D31 last, D16–D19 pause 1–4, D20 VME pause. The word
+/// at index N − 1 counts as last". (A board of depth 0 has no word; see CALLS.md.)
+pub fn hold(word: u32, index: u32, depth: u32) -> Option<Hold> {
+    if word >> 31 == 1 || index + 1 >= depth {
+        return Some(Hold::Last);
+    }
+    (1..=5).find(|k| word >> (15 + k) & 1 == 1).map(Hold::Pause)
+}
+
+pub fn status_of(h: Hold) -> u16 {
+    match h {
+        Hold::Last => EOF,
+        Hold::Pause(5) => 1 << 7,
+        Hold::Pause(k) => 1 << (7 + k),
+    }
+}
+
+/// A function that is not idle.
+#[derive(Clone)]
+pub struct Function {
+    /// The tick on which the next word or repeat leaves.
+    pub due: u64,
+    /// "the index due"
+    pub index: u32,
+    /// The word that repeats, and why.
+    pub held: Option<(u32, Hold)>,
+    /// A resume under way: the tick on which the next word leaves.
+    pub resume: Option<u64>,
+    /// The last word went since the latest Start.
+    pub ended: bool,
+    /// The last send since idle: D31–D26 of its readbacks, and the replies after it.
+    pub sent: Option<(u32, u32)>,
+    /// No send since the latest Start (for the tally alone).
+    pub fresh: bool,
+}
+
+#[derive(Clone)]
+pub struct Channel {
+    pub w: [u16; 112],
+    pub armed: bool,
+    pub function: Option<Function>,
+    pub count: u32,
+    pub stored: [usize; 2],
+}
+
+// Half offsets in `w`.
+pub const ENABLE: usize = 0x00 / 2;
+pub const CLOCK: usize = 0x0A / 2;
+pub const ACTIVE: usize = 0x0E / 2;
+pub const COUNT: usize = 0x10 / 2;
+pub const ID: usize = 0x14 / 2;
+pub const START: usize = 0x20 / 2;
+pub const END: usize = 0x2A / 2;
+pub const SWITCH: usize = 0x30 / 2;
+pub const DELAYS: usize = 0x40 / 2;
+
+impl Channel {
+    pub fn new() -> Channel {
+        Channel { w: [0; 112], armed: false, function: None, count: 0, stored: [0, 0] }
+    }
+    /// The user's start delay (k = 0) or resume k delay: "per user: high byte, then low word".
+    pub fn delay(&self, k: u32, user: u32) -> u64 {
+        let at = DELAYS + 16 * k as usize + 2 * (user as usize - 1);
+        (self.w[at] as u64) << 16 | self.w[at + 1] as u64
+    }
+    /// "0, 1, 2, 3 give a period of 10,000, 1,000, 100, 10 µs"
+    pub fn period(&self) -> u64 {
+        [10_000, 1_000, 100, 10][self.w[CLOCK] as usize]
+    }
+    pub fn active_readback(&self) -> usize {
+        (self.w[ACTIVE] >> 8 & 1) as usize
+    }
+    pub fn active_setpoint(&self, user: u32) -> u32 {
+        (self.w[ACTIVE] >> (user - 1) & 1) as u32
+    }
+}

@@ -1,0 +1,106 @@
+//! What this program says to the files of a corpus, and what they reach.
+
+use crate::answer::Answer;
+use crate::tally::{Tally, DID};
+use crate::{runfile, script};
+use std::fs;
+use std::path::{Path, PathBuf};
+
+/// The files of a directory, in order.
+fn files(dir: &Path) -> std::io::Result<Vec<PathBuf>> {
+    let mut paths: Vec<_> = fs::read_dir(dir)?.filter_map(|e| e.ok().map(|e| e.path())).collect();
+    paths.sort();
+    Ok(paths)
+}
+
+fn ending(path: &Path) -> &str {
+    path.extension().and_then(|e| e.to_str()).unwrap_or("")
+}
+
+/// Beside each run file its log line and trace, beside each script its answers.
+pub fn answers(dir: &Path) -> std::io::Result<()> {
+    for path in files(dir)? {
+        match ending(&path) {
+            "run" => {
+                let told = runfile::tell(&fs::read(&path)?);
+                fs::write(path.with_extension("run.line"), told.line)?;
+                fs::write(path.with_extension("run.trace"), told.trace)?;
+            }
+            "calls" => fs::write(path.with_extension("calls.text"), script::tell(&fs::read(&path)?).text)?,
+            _ => {}
+        }
+    }
+    Ok(())
+}
+
+/// What the files of one kind reach.
+struct Reach {
+    files: u64,
+    answers: u64,
+    frames: u64,
+    /// Files with a frame.
+    sending: u64,
+    /// By number.
+    refused: [u64; 10],
+    did: Tally,
+}
+
+impl Reach {
+    fn new() -> Reach {
+        Reach { files: 0, answers: 0, frames: 0, sending: 0, refused: [0; 10], did: Tally::new() }
+    }
+    fn add(&mut self, answers: &[Answer], did: Option<&Tally>) {
+        self.files += 1;
+        self.answers += answers.len() as u64;
+        let before = self.frames;
+        for a in answers {
+            match a {
+                Answer::Refused(n) => self.refused[*n as usize] += 1,
+                Answer::Ticks(sent) => self.frames += sent.len() as u64,
+                _ => {}
+            }
+        }
+        self.sending += (self.frames > before) as u64;
+        if let Some(did) = did {
+            self.did.join(did);
+        }
+    }
+}
+
+/// What the files of a directory reach; false if something is not reached at all.
+pub fn summary(dir: &Path) -> std::io::Result<bool> {
+    let (mut runs, mut calls) = (Reach::new(), Reach::new());
+    for path in files(dir)? {
+        match ending(&path) {
+            "run" => {
+                let told = runfile::tell(&fs::read(&path)?);
+                runs.add(&told.answers, Some(&told.bench.board.tally));
+            }
+            "calls" => {
+                let told = script::tell(&fs::read(&path)?);
+                calls.add(&told.answers, told.bench.as_ref().map(|b| &b.board.tally));
+            }
+            _ => {}
+        }
+    }
+    let (answers, frames, sending) = (runs.answers + calls.answers, runs.frames + calls.frames, runs.sending + calls.sending);
+    println!("{} run files, {} call scripts, {answers} answers, {frames} frames in {sending} of the files", runs.files, calls.files);
+    let mut missing: Vec<String> = Vec::new();
+    for n in 1..=9 {
+        println!("refused {n}: {} in run files, {} in scripts", runs.refused[n], calls.refused[n]);
+        if (n >= 2 && runs.refused[n] == 0) || (n <= 7 && calls.refused[n] == 0) {
+            missing.push(format!("refused {n}"));
+        }
+    }
+    runs.did.join(&calls.did);
+    for (name, n) in DID.iter().zip(&runs.did.0) {
+        println!("{name} {n}");
+        if *n == 0 {
+            missing.push(name.to_string());
+        }
+    }
+    if !missing.is_empty() {
+        println!("not reached: {}", missing.join(", "));
+    }
+    Ok(missing.is_empty())
+}

@@ -1,0 +1,142 @@
+//! A file that grows: each record is put to a live bench, and its bytes after the others.
+
+use super::dice::Dice;
+use crate::board::Board;
+use crate::{runfile, script};
+
+#[derive(Clone, Copy)]
+pub enum Op {
+    Write(u32, u16),
+    Read(u32),
+    Set { c: u32, user: u32, buffer: u32, index: u32, word: u32 },
+    Arm(u32),
+    Disarm(u32),
+    Reply(u32, u64),
+    Ticks(u32),
+    Event(u8),
+    User(u32),
+    /// Scripts only.
+    Retired { c: u32, length: bool, lent: u8 },
+    Level,
+    Open { n: u32, m: u32, setpoints: u32, readbacks: u32 },
+    Poke { readbacks: bool, at: u32, word: u32 },
+    /// A whole record as it stands.
+    Raw([u8; 16]),
+}
+
+pub fn run_record(kind: u8, channel: u32, a: u32, b: u32) -> [u8; 8] {
+    let (a, b) = ((a as u16).to_le_bytes(), b.to_le_bytes());
+    [kind, channel as u8, a[0], a[1], b[0], b[1], b[2], b[3]]
+}
+
+/// The record of a run file that asks this, if there is one.
+fn as_run_record(op: Op, dice: &Dice) -> Option<[u8; 8]> {
+    // "Kinds 1, 2, 4, 5 and 7 ignore the channel byte."
+    let any = if dice.chance(80) { 0 } else { dice.below(256) };
+    let unused = || if dice.chance(90) { 0 } else { dice.below(65_536) };
+    Some(match op {
+        Op::Write(address, value) => run_record(1, any, address, value as u32),
+        Op::Read(address) => run_record(2, any, address, if dice.chance(80) { 0 } else { dice.roll() as u32 }),
+        Op::Set { c, user, buffer, index, word } => {
+            let in_range = (1..=8).contains(&user) && (1..=2).contains(&buffer) && index < 16;
+            let a = if in_range { 32 * (user - 1) + 16 * (buffer - 1) + index } else { 256 + dice.below(65_280) };
+            run_record(3, c, a, word)
+        }
+        Op::Event(code) => run_record(4, any, unused(), code as u32),
+        Op::Ticks(n) => run_record(5, any, unused(), n),
+        Op::Reply(c, reply) => run_record(6, c, (reply >> 32) as u32, reply as u32),
+        Op::User(user) => run_record(7, any, unused(), user),
+        Op::Arm(c) => run_record(8, c, unused(), 1),
+        Op::Disarm(c) => run_record(8, c, 0, 0),
+        Op::Raw(r) => [r[0], r[1], r[2], r[3], r[4], r[5], r[6], r[7]],
+        Op::Retired { .. } | Op::Level | Op::Open { .. } | Op::Poke { .. } => return None,
+    })
+}
+
+fn script_record(kind: u8, c: u32, lent: u8, buffer: u32, x: u32, y: u32, z: u32) -> [u8; 16] {
+    let mut r = [0; 16];
+    r[..4].copy_from_slice(&[kind, c as u8, lent, buffer as u8]);
+    for (at, v) in [(4, x), (8, y), (12, z)] {
+        r[at..at + 4].copy_from_slice(&v.to_le_bytes());
+    }
+    r
+}
+
+/// The record of a script that asks this; a wrong memory is lent in `spite` percent of them.
+fn as_script_record(op: Op, dice: &Dice, spite: u32) -> [u8; 16] {
+    let lent = if dice.chance(spite) { dice.of(&[1, 1, 2, 3, 3, 3, 4]) } else { dice.of(&[0, 0, 0, 0, 0, 0, 0, 200]) };
+    match op {
+        Op::Write(address, value) => script_record(1, 0, lent, 0, address, value as u32, 0),
+        Op::Read(address) => script_record(2, 0, 0, 0, address, 0, 0),
+        Op::Set { c, user, buffer, index, word } => script_record(3, c, lent, buffer, user, index, word),
+        Op::Arm(c) => script_record(4, c, 0, 0, 0, 0, 0),
+        Op::Disarm(c) => script_record(5, c, 0, 0, 0, 0, 0),
+        Op::Reply(c, reply) => script_record(6, c, lent, 0, 0, reply as u32, (reply >> 32) as u32),
+        Op::Retired { c, length, lent } => script_record(if length { 8 } else { 7 }, c, lent, 0, 0, 0, 0),
+        Op::Ticks(n) => script_record(9, 0, lent, 0, n, 0, 0),
+        Op::Event(code) => script_record(10, 0, lent, 0, code as u32, 0, 0),
+        Op::User(user) => script_record(11, 0, 0, 0, user, 0, 0),
+        Op::Level => script_record(12, 0, 0, 0, 0, 0, 0),
+        Op::Open { n, m, setpoints, readbacks } => script_record(0, 0, 0, 0, n, m, readbacks << 16 | setpoints),
+        Op::Poke { readbacks, at, word } => script_record(13, readbacks as u32, 0, 0, at, word, 0),
+        Op::Raw(bytes) => bytes,
+    }
+}
+
+enum Bench {
+    Run(runfile::Bench),
+    /// And how often a wrong memory is lent, in percent.
+    Script(script::Bench, u32),
+}
+
+pub struct World {
+    pub bytes: Vec<u8>,
+    bench: Bench,
+}
+
+impl World {
+    /// The records of a run file.
+    pub fn run() -> World {
+        World { bytes: Vec::new(), bench: Bench::Run(runfile::Bench::new()) }
+    }
+    /// A script with its header.
+    pub fn script(header: Vec<u8>, spite: u32) -> World {
+        let (bench, _) = script::Bench::new(&header);
+        World { bytes: header, bench: Bench::Script(bench, spite) }
+    }
+    pub fn is_script(&self) -> bool {
+        matches!(self.bench, Bench::Script(..))
+    }
+    pub fn board(&self) -> &Board {
+        match &self.bench {
+            Bench::Run(bench) => &bench.board,
+            Bench::Script(bench, _) => &bench.board,
+        }
+    }
+    pub fn records(&self) -> usize {
+        match self.bench {
+            Bench::Run(_) => self.bytes.len() / 8,
+            Bench::Script(..) => self.bytes.len() / 16 - 1,
+        }
+    }
+    /// The call as a record, unless the file is full.
+    pub fn put(&mut self, op: Op, dice: &Dice) {
+        let record = match self.bench {
+            Bench::Run(_) => as_run_record(op, dice).map(|r| r.to_vec()),
+            Bench::Script(_, spite) => Some(as_script_record(op, dice, spite).to_vec()),
+        };
+        let Some(record) = record else { return };
+        if self.bytes.len() + 16 > 65_536 {
+            return;
+        }
+        // No story lets a closed board come to a send: it has no word to send (CALLS.md).
+        if self.board().n == 0 && record[0] == 9 && (0..4).any(|c| !self.board().peek(c).idle) {
+            return;
+        }
+        match &mut self.bench {
+            Bench::Run(bench) => bench.step(&record),
+            Bench::Script(bench, _) => bench.step(&record),
+        };
+        self.bytes.extend(record);
+    }
+}

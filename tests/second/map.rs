@@ -1,0 +1,53 @@
+//! The register map: which address is whose, what may be read and written, and the bits that are
+//! kept. Quotations are document 01's.
+
+/// The channel's registers: (read, write, bits kept). "Offsets from there are even".
+pub fn rule(offset: u32) -> Option<(bool, bool, u16)> {
+    if offset % 2 != 0 {
+        return None;
+    }
+    match offset {
+        0x00 => Some((true, true, 0xFFF7)),
+        0x02 | 0x04 | 0x0E | 0x10 | 0x12 => Some((true, false, 0)),
+        0x06 | 0x08 => Some((false, true, 0)),
+        0x0A => Some((true, true, 0xFFFF)),
+        0x14 => Some((true, true, 0x00FF)),
+        0x20..=0x2A => Some((true, true, 0x01FF)),
+        0x30..=0x3E => Some((false, true, 0x0001)),
+        0x40..=0xDE if offset % 4 == 0 => Some((true, true, 0x00FF)),
+        0x40..=0xDE => Some((true, true, 0xFFFF)),
+        _ => None,
+    }
+}
+
+/// The readable offsets of a channel, in order.
+pub fn readable() -> Vec<u32> {
+    (0..0x800).filter(|&o| matches!(rule(o), Some((true, _, _)))).collect()
+}
+
+pub enum Place {
+    Main(u32),
+    Channel(usize, u32),
+}
+
+/// "Channel c starts at 0800h × c. [...] below 0800h is Main; 2800h and above is refused 3."
+/// Answers 3 and 4 for the way asked.
+pub fn place(address: u32, write: bool) -> Result<Place, u8> {
+    let (c, offset) = (address / 0x800, address % 0x800);
+    if c == 0 {
+        return match offset {
+            0x22 | 0x24 | 0x26 => Ok(Place::Main(offset)),
+            0x28 | 0x2A if write => Err(4),
+            0x28 | 0x2A => Ok(Place::Main(offset)),
+            _ => Err(3),
+        };
+    }
+    if c > 4 {
+        return Err(3);
+    }
+    match rule(offset) {
+        None => Err(3),
+        Some((r, w, _)) if (write && !w) || (!write && !r) => Err(4),
+        Some(_) => Ok(Place::Channel(c as usize - 1, offset)),
+    }
+}

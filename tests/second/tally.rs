@@ -1,0 +1,50 @@
+//! What a test can claim to have reached; counted for the corpus summary, never printed by
+//! `run`, `trace` or `calls`.
+
+macro_rules! tallies {
+    ($($name:ident)*) => {
+        #[allow(non_camel_case_types)]
+        #[derive(Clone, Copy)]
+        pub enum Did { $($name),* }
+        pub const DID: &[&str] = &[$(stringify!($name)),*];
+    };
+}
+
+tallies! {
+    first_sending repeat_of_pause repeat_of_last repeat_in_resume_delay repeat_on_last_delay_tick
+    repeat_dropped_in_silence kept_word_differs_from_memory
+    last_by_d31 last_by_depth last_over_pause_bits two_pause_bits
+    pause_1 pause_2 pause_3 pause_4 pause_vme
+    resume_1 resume_2 resume_3 resume_4 resume_vme
+    resume_of_other_pause resume_while_resuming
+    start_by_event start_by_command start_disarmed restart restart_after_last restart_from_pause
+    run_latched eof_latched ee_by_group_end ee_by_user_change
+    group_end_by_event group_end_by_command group_end_not_idle group_end_idle group_end_disarmed
+    group_end_then_start start_then_resume end_word end_word_without_space
+    switch_current_user switch_other_user switch_withdrawn
+    user_changed user_same disarm_not_idle disarm_idle arm_armed reset_not_idle reset_idle reset_without_d0
+    kept lost unasked_idle unasked_before_send unasked_seventh kept_in_new_start_delay
+    crc_wrong_kept crc_wrong_lost crc_wrong_unasked
+    kept_first kept_paused kept_last
+    main_bit_raised main_bit_not_enabled event_came channel_status_read main_status_read
+    level_not_zero level_zero_while_latched clock_changed_while_running
+    setpoint_inactive_while_armed setpoint_active_while_disarmed
+    part_empty part_not_empty count_shown_not_zero count_past_16_bits
+    tick_refused write_refused_1 event_refused_1 setpoint_refused_1 reply_refused_1 retired_refused_1
+    open_refused opened_again
+}
+
+#[derive(Clone)]
+pub struct Tally(pub Vec<u64>);
+
+impl Tally {
+    pub fn new() -> Tally {
+        Tally(vec![0; DID.len()])
+    }
+    pub fn add(&mut self, d: Did) {
+        self.0[d as usize] += 1;
+    }
+    pub fn join(&mut self, other: &Tally) {
+        self.0.iter_mut().zip(&other.0).for_each(|(a, b)| *a += b);
+    }
+}
