@@ -4,11 +4,9 @@ use mathlib.Core.Path.{_≡_, refl, _∙_}
 use mathlib.Core.Bool.{Bool, true, false}
 use lib.Dec.{eqb}
 use Rattle.status.specs.Bits.{bitAt}
-use Rattle.status.specs.Latching.{run}
 use Rattle.registers.specs.Map.{triggersOf, groupEndEvent}
 use Rattle.sequencer.specs.Playing.{isIdle}
 use Rattle.channel_core.specs.declared.Channel.{Channel}
-use Rattle.channel_core.specs.State.{conditionLatched}
 use Rattle.channel_core.specs.Behaviour.{started, startedIf, endedIf, resumedIf, resumedOn, eventOf, commanded}
 use Rattle.channel.specs.Calls.{readEffect, mainTaken}
 use Rattle.channel.specs.OneChannel.{mainRead}

@@ -1,5 +1,5 @@
 -- Status, registers and stored readback counts stay in range through what a channel does. Assumes nothing.
-use Prim.Native.Nat.{ℕ, zero, suc, _+_, _≤_}
+use Prim.Native.Nat.{ℕ, zero, suc, _≤_}
 use mathlib.Core.Path.{_≡_, refl, sym, _∙_, ap}
 use mathlib.Core.Bool.{Bool, true, false}
 use mathlib.Core.List.{List, [], _∷_}
@@ -24,7 +24,7 @@ use Rattle.readback.specs.declared.Disposition.{Disposition}
 use Rattle.readback.specs.declared.Disposition.the-variants as disposition
 use Rattle.readback.specs.Storing.{keptIn, capacity}
 use Rattle.channel_core.specs.declared.Channel.{Channel}
-use Rattle.channel_core.specs.State.{opened, reset, withStatus, withRegisters, withSequencer, conditionLatched}
+use Rattle.channel_core.specs.State.{opened, reset, withStatus, withRegisters, withSequencer}
 use Rattle.channel_core.specs.Behaviour.{started, startedIf, endedIf, resumedIf, resumedOn, eventOf, commanded, groupEnded, earlyEnded, userChanged, sendStatus, dueOf, playedOf, tickOf, crcStatus, dispositionNow, receivedChannel, replyAs, replyOf}
 use Rattle.channel.proofs.Cases.{clash, either, by-test}
 use Rattle.histories.proofs.Ticks.{Latching, plays-ticked}

@@ -4,22 +4,18 @@ use mathlib.Core.Path.{_≡_, refl, sym, _∙_, ap, subst}
 use mathlib.Core.Bool.{Bool, true, false, cond}
 use mathlib.Core.List.{List, [], _∷_}
 use native.Mathlib.Omega.{arith}
-use lib.ListN.{length, length-set}
+use lib.ListN.{length}
 use lib.Dec.{eqb, ltb}
 use borrow.Author.Tests.{eqb-true, eq-eqb, ltb-false}
-use Rattle.frame.specs.Frames.{Reading, read}
-use Rattle.frame.specs.Frames as frame
 use Rattle.register_map.specs.AccessRule.{channelAccess}
 use Rattle.register_map.specs.Verdicts.{writeRefusal}
 use Rattle.status.specs.Bits.{bitAt}
 use Rattle.status.proofs.Laws.{enable-drops}
-use Rattle.readback.specs.declared.Disposition.{Disposition}
-use Rattle.readback.specs.declared.Disposition.the-variants as disposition
 use Rattle.channel_core.specs.declared.Channel.{Channel}
 use Rattle.channel_core.specs.State as state
 use Rattle.channel_core.specs.Answers.{Answer}
-use Rattle.channel_core.specs.Behaviour.{userChanged, groupWords, endedWords, eventWords, commandWords, dispositionNow, receivedWords, replyWordsAs, replyWords}
-use Rattle.channel.specs.Calls.{registerRefusal, registerEffect, registerWords, readEffect, outside, setpointRefusal, setpointWords, armedOf, disarmedOf, mainTaken}
+use Rattle.channel_core.specs.Behaviour.{userChanged}
+use Rattle.channel.specs.Calls.{registerRefusal, registerEffect, readEffect, outside, armedOf, disarmedOf, mainTaken}
 use Rattle.channel.specs.OneChannel.{ChannelCall, OneChannel, oneChannel, then, lengthRefusal, refusalOf, effect, transition, transitions, mainRead, withUser, withChannel, withReadbacks, userRefusal}
 use Rattle.channel.specs.OneChannel as call
 use Rattle.channel.proofs.Cases.{clash, passed, either}

@@ -22,7 +22,7 @@ use Rattle.channel.specs.OneChannel.{userRefusal}
 use Rattle.board_state.specs.declared.Board.{Board}
 use Rattle.board_state.specs.State.{channelAt}
 use Rattle.board_state.specs.Main.{mainValue}
-use Rattle.board.specs.Answers.{BoardAnswer, one, each, ofFour}
+use Rattle.board.specs.Answers.{BoardAnswer}
 use Rattle.board.specs.Calls.{noChannel, setpointsFit, readbacksFit, readAnswerAt, writeAnswerAt}
 use Rattle.board.specs.Calls as calls
 use Rattle.isolation.specs.Calls.{Call, writeRegister, readRegister, writeSetpoint, arm, disarm, reply, retired, retiredLength, tick, event, changeUser, interruptLevel, Lent, first, second, answer}
