@@ -2,11 +2,11 @@
 //
 //   rules        (run in the repository's folder)
 //
-// - Every word of document 01 (docs/papers/01-scope.md) is quoted by a row of RULES.md, and every quote is verbatim.
+// - Every word of document 01 (docs/papers/01-scope.md) is quoted by a row of RULES.md, and every quote there is verbatim, of document 01 or 02.
 // - Every quote of documents 01 and 02 in DECISIONS.md is verbatim.
 // - Every row names a definition, a contract or a theorem, or says that it is no rule of behaviour.
-// - Every name in a row, and in an entry's "In the code" of DECISIONS.md, is in the tree: in the place given after it, or anywhere if there is none.
-//
+// - Every name in a row, in an entry's "In the code" of DECISIONS.md and in ARCHITECTURE.md is in the tree: in the place given after it, or
+//   anywhere if there is none; and every entry that a page cites is in DECISIONS.md.
 // - Every crate has a row in ARCHITECTURE.md; every file of specs/ opens with a comment; no function has 40 lines or more, and no file of code
 //   over 330.
 //
@@ -44,11 +44,11 @@ fn defined(line: &str, code: bool) -> Option<String> {
     let field = rest.len() < line.len();
     let mut marked = false;
     while let Some((head, tail)) = rest.split_once(' ') {
-        let skipped = if code { &["pub", "const", "fn", "struct", "enum"][..] } else { &["pub", "abbrev", "unfoldable", "record", "data"][..] };
+        let skipped = if code { &["pub", "pub(crate)", "const", "fn", "struct", "enum"][..] } else { &["pub", "abbrev", "unfoldable", "record", "data"][..] };
         if !skipped.contains(&head) {
             break;
         }
-        marked = marked || head != "pub";
+        marked = marked || !head.starts_with("pub");
         rest = tail.trim_start();
     }
     let name = word(rest);
@@ -175,8 +175,8 @@ fn quotes(text: &str) -> Vec<String> {
     text.split('«').skip(1).filter_map(|t| t.split_once('»')).map(|(q, _)| spaced(q)).collect()
 }
 
-// The words of the paper that no quote has, and the quotes that are not in it.
-fn uncovered(paper: &str, quotes: &[String]) -> Vec<String> {
+// The words of the paper that no quote has, and the quotes that are neither in it nor in the other one.
+fn uncovered(paper: &str, other: &str, quotes: &[String]) -> Vec<String> {
     let mut left: Vec<u8> = paper.bytes().collect();
     let mut bad = Vec::new();
     let mut long: Vec<&String> = quotes.iter().collect();
@@ -187,8 +187,8 @@ fn uncovered(paper: &str, quotes: &[String]) -> Vec<String> {
             found = true;
             left[i..i + quote.len()].fill(b' ');
         }
-        if !found {
-            bad.push(format!("not in document 01: «{quote}»"));
+        if !found && !other.contains(quote.as_str()) {
+            bad.push(format!("not in document 01 or 02: «{quote}»"));
         }
     }
     let text = String::from_utf8_lossy(&left).into_owned();
@@ -205,6 +205,22 @@ fn misquoted(page: &str, number: &str, paper: &str) -> Vec<String> {
     let (text, start) = (spaced(paper), format!("document {number}: «"));
     let given = page.split(start.as_str()).skip(1).filter_map(|t| t.split_once('»')).map(|(q, _)| spaced(q));
     given.filter(|q| !text.contains(q.as_str())).map(|q| format!("not in document {number}: «{q}»")).collect()
+}
+
+// The entries of DECISIONS.md that a page cites: "entry D1", "Entry D1", "entries D1 (..) and D2", "entries D1 to D2".
+fn cited(text: &str) -> Vec<String> {
+    let number = |t: &str| t.chars().take_while(char::is_ascii_digit).collect::<String>();
+    let mut out: Vec<String> = text.split("ntry D").skip(1).map(number).collect();
+    for list in text.split("ntries D").skip(1) {
+        out.extend(list.split('.').next().unwrap_or("").split(&[' ', '('][..]).filter_map(|w| w.strip_prefix('D').or(Some(w))).map(number));
+    }
+    out.retain(|n| !n.is_empty());
+    out
+}
+
+// Whether a text between backticks is a name, and not a folder, an ending, a command or a place to be filled in.
+fn is_name(text: &str) -> bool {
+    !text.ends_with('/') && !text.starts_with('.') && !text.contains(".X") && !text.contains(&['(', ' '][..]) && text != "use"
 }
 
 // A row must name something that is there, or say why it has nothing.
@@ -260,49 +276,100 @@ fn layout() -> Vec<String> {
     bad
 }
 
-fn main() {
-    let tree = tree();
-    let read = |path: &str| fs::read_to_string(path).unwrap_or_default();
-    let (rules, decisions) = (read("docs/RULES.md"), read("docs/DECISIONS.md"));
-    let mut bad = Vec::new();
-    let (mut rows, mut names) = (0, 0);
-    let mut check = |title: &str, text: &str, bad: &mut Vec<String>| {
-        for (name, after) in quoted(text) {
-            names += 1;
-            if let Some(w) = wrong(&tree, name, after) {
-                bad.push(format!("{title}: {w}"));
+const RULES: &str = "docs/RULES.md";
+const DECISIONS: &str = "docs/DECISIONS.md";
+const ARCHITECTURE: &str = "docs/ARCHITECTURE.md";
+const SCOPE: &str = "docs/papers/01-scope.md";
+const REQUESTS: &str = "docs/papers/02-change-requests.md";
+
+fn read(path: &str) -> String {
+    fs::read_to_string(path).unwrap_or_default()
+}
+
+struct Check {
+    tree: Tree,
+    rows: usize,
+    names: usize,
+    bad: Vec<String>,
+}
+
+impl Check {
+    fn say(&mut self, page: &str, wrongs: Vec<String>) {
+        self.bad.extend(wrongs.into_iter().map(|w| format!("{page}: {w}")));
+    }
+
+    // The names between backticks of a text.
+    fn names(&mut self, title: &str, text: &str) {
+        let found = quoted(text);
+        self.names += found.len();
+        let wrongs = found.into_iter().filter_map(|(name, after)| wrong(&self.tree, name, after)).collect();
+        self.say(title, wrongs);
+    }
+
+    fn rules(&mut self) {
+        for line in read(RULES).lines().filter(|l| l.starts_with("| ") && !l.starts_with("| No.")) {
+            let cells: Vec<&str> = line.trim_matches('|').split(" | ").map(str::trim).collect();
+            self.rows += 1;
+            let title = format!("{RULES} {}", cells[0]);
+            if cells.len() != 4 || row_is_bare(&cells) {
+                self.say(&title, vec!["a row without a name".to_string()]);
+            } else {
+                self.names(&title, &cells[2]);
+                self.names(&title, &cells[3]);
             }
         }
-    };
-    for line in rules.lines().filter(|l| l.starts_with("| ") && !l.starts_with("| No.")) {
-        let cells: Vec<&str> = line.trim_matches('|').split(" | ").map(str::trim).collect();
-        rows += 1;
-        if cells.len() != 4 || row_is_bare(&cells) {
-            bad.push(format!("RULES.md: a row without a name: {}", cells[0]));
-            continue;
-        }
-        check(&format!("RULES.md {}", cells[0]), &cells[2], &mut bad);
-        check(&format!("RULES.md {}", cells[0]), &cells[3], &mut bad);
     }
-    let mut entry = "";
-    for line in decisions.lines() {
-        if let Some(head) = line.strip_prefix("### ") {
-            entry = head.split('.').next().unwrap_or(head);
-        }
-        if let Some(code) = line.strip_prefix("- **In the code.** ") {
-            check(&format!("DECISIONS.md {entry}"), code, &mut bad);
+
+    fn decisions(&mut self) {
+        let text = read(DECISIONS);
+        let mut entry = "";
+        for line in text.lines() {
+            if let Some(head) = line.strip_prefix("### ") {
+                entry = head.split('.').next().unwrap_or(head);
+            }
+            if let Some(code) = line.strip_prefix("- **In the code.** ") {
+                self.names(&format!("{DECISIONS} {entry}"), code);
+            }
         }
     }
-    for number in rules.split("entry D").skip(1).map(|t| t.chars().take_while(char::is_ascii_digit).collect::<String>()) {
-        if !decisions.contains(&format!("### D{number}.")) && !decisions.contains(&format!("| D{number} |")) {
-            bad.push(format!("RULES.md: no entry D{number}"));
+
+    fn architecture(&mut self) {
+        let (text, crates) = (read(ARCHITECTURE), read("crates.txt"));
+        for (name, _) in text.split("```").step_by(2).flat_map(quoted).filter(|(name, _)| is_name(name)) {
+            self.names += 1;
+            let kit = crates.lines().any(|l| l.split(' ').any(|w| w == name));
+            if !kit && !Path::new(name).exists() {
+                let wrongs = wrong(&self.tree, name, "").into_iter().collect();
+                self.say(ARCHITECTURE, wrongs);
+            }
         }
     }
-    bad.extend(uncovered(&paper(&read("docs/papers/01-scope.md")), &quotes(&rules)).into_iter().map(|w| format!("RULES.md: {w}")));
-    for (number, path) in [("01", "docs/papers/01-scope.md"), ("02", "docs/papers/02-change-requests.md")] {
-        bad.extend(misquoted(&decisions, number, &read(path)).into_iter().map(|w| format!("DECISIONS.md: {w}")));
+
+    fn entries(&mut self) {
+        let decisions = read(DECISIONS);
+        for page in [RULES, ARCHITECTURE, "README.md"] {
+            let gone = |n: &String| !decisions.contains(&format!("### D{n}.")) && !decisions.contains(&format!("| D{n} |"));
+            let wrongs = cited(&read(page)).into_iter().filter(gone).map(|n| format!("no entry D{n}")).collect();
+            self.say(page, wrongs);
+        }
     }
-    bad.extend(layout());
+
+    fn papers(&mut self) {
+        self.say(RULES, uncovered(&paper(&read(SCOPE)), &spaced(&read(REQUESTS)), &quotes(&read(RULES))));
+        for (number, path) in [("01", SCOPE), ("02", REQUESTS)] {
+            self.say(DECISIONS, misquoted(&read(DECISIONS), number, &read(path)));
+        }
+    }
+}
+
+fn main() {
+    let mut check = Check { tree: tree(), rows: 0, names: 0, bad: layout() };
+    check.rules();
+    check.decisions();
+    check.architecture();
+    check.entries();
+    check.papers();
+    let Check { rows, names, mut bad, .. } = check;
     if rows < 100 || names < 300 {
         bad.push(format!("only {rows} rows and {names} names were found: the pages are not in the form that this reads"));
     }
