@@ -22,9 +22,9 @@ part-length file e =
     rw (e, length-take, length-drop) (omega arith)
 
 -- "a twin on the same input that answers the number or the part's length"
-pub twin : (file : List ℕ) → recordsLength file ≡ unless (fileRefusal file) (ans.partLength (length (recordsPart file)))
+pub records-length-is : (file : List ℕ) → recordsLength file ≡ unless (fileRefusal file) (ans.partLength (length (recordsPart file)))
 unfolding recordsLength
-twin file = go (eqb (fileRefusal file) 0) refl
+records-length-is file = go (eqb (fileRefusal file) 0) refl
   where
     go : (b : Bool) → eqb (fileRefusal file) 0 ≡ b
         → cond b (ans.partLength (8 * count file)) (ans.refused (fileRefusal file)) ≡ cond b (ans.partLength (length (recordsPart file))) (ans.refused (fileRefusal file))
