@@ -36,7 +36,7 @@ fn print(text: &str) {
 fn main() {
     let args: Vec<String> = std::env::args().skip(1).collect();
     match args.iter().map(String::as_str).collect::<Vec<_>>()[..] {
-        ["run"] => print(&runfile::tell(&input()).line),
+        ["run"] => print(&runfile::line(&input())),
         ["trace"] => print(&runfile::tell(&input()).trace),
         ["calls"] => print(&script::tell(&input()).text),
         ["gen", dir, seed, count] => {

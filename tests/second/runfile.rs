@@ -79,6 +79,41 @@ impl Bench {
     }
 }
 
+/// What a run counts: "records, refusals and frames of channels 1–4".
+#[derive(Default)]
+struct Counts {
+    steps: u64,
+    refused: u64,
+    frames: [u64; 4],
+}
+
+impl Counts {
+    fn count(&mut self, answer: &Answer) {
+        self.steps += 1;
+        match answer {
+            Answer::Refused(_) => self.refused += 1,
+            Answer::Ticks(sent) => sent.iter().for_each(|s| self.frames[s.1 - 1] += 1),
+            _ => {}
+        }
+    }
+
+    /// "prints records, refusals and frames of channels 1–4 in one line"
+    fn line(&self) -> String {
+        let [f1, f2, f3, f4] = self.frames;
+        format!("steps {} refused {} frames {f1} {f2} {f3} {f4}\n", self.steps, self.refused)
+    }
+}
+
+/// The log line alone: no answer is kept, and none is written out.
+pub fn line(file: &[u8]) -> String {
+    let Ok(records) = records(file) else { return "file 8\n".into() };
+    let (mut bench, mut counts) = (Bench::new(), Counts::default());
+    for record in records.chunks(8) {
+        counts.count(&bench.step(record));
+    }
+    counts.line()
+}
+
 /// The log line and the trace of a file, and the bench after it.
 pub struct Told {
     pub line: String,
@@ -92,16 +127,11 @@ pub fn tell(file: &[u8]) -> Told {
     let Ok(records) = records(file) else {
         return Told { line: "file 8\n".into(), trace: "file 8\n".into(), answers: vec![Answer::Refused(8)], bench };
     };
-    let (mut trace, mut answers) = (String::new(), Vec::new());
-    let (mut refused, mut frames) = (0, [0u64; 4]);
+    let (mut trace, mut answers, mut counts) = (String::new(), Vec::new(), Counts::default());
     for (k, record) in records.chunks(8).enumerate() {
         let a = bench.step(record);
         writeln!(trace, "{} {a}", k + 1).unwrap();
-        match &a {
-            Answer::Refused(_) => refused += 1,
-            Answer::Ticks(sent) => sent.iter().for_each(|s| frames[s.1 - 1] += 1),
-            _ => {}
-        }
+        counts.count(&a);
         answers.push(a);
     }
     trace.push_str("end");
@@ -112,8 +142,5 @@ pub fn tell(file: &[u8]) -> Told {
         write!(trace, " r{}", bench.board.retired_count(c)).unwrap();
     }
     trace.push('\n');
-    // "prints records, refusals and frames of channels 1–4 in one line"
-    let [f1, f2, f3, f4] = frames;
-    let line = format!("steps {} refused {refused} frames {f1} {f2} {f3} {f4}\n", answers.len());
-    Told { line, trace, answers, bench }
+    Told { line: counts.line(), trace, answers, bench }
 }

@@ -59,7 +59,7 @@ pub fn setpoint_place(user: u8, second: bool, n: u32, index: u32) -> usize
 }
 
 // A word of a slice, and 0 past its end.
-fn word_at(words: &[u32], at: usize) -> u32
+pub fn word_at(words: &[u32], at: usize) -> u32
     ensures { λ r. ⌜ r ≡ getD (now (words .entry)) at 0 ⌝ }
 {
     if at < words.len() { words[at] } else { 0 }

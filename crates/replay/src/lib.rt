@@ -9,7 +9,7 @@ ghost use mathlib.Core.Path.{_≡_};
 ghost use lib.ListN.{length};
 ghost use Rattle.channel.specs.Answers.{outcomeOf};
 ghost use Rattle.board.specs.Answers.{one};
-ghost use Rattle.board.specs.Calls.{writeBoard, writeAnswer, writeWords, readBoard, readAnswer, setpointAnswer, setpointWords, armBoard, disarmBoard, armAnswer, replyBoard, replyAnswer, replyWords, tickBoard, tickBoardAnswer, eventBoard, eventAnswer, eventWords, userBoard, userAnswer};
+ghost use Rattle.board.specs.Calls.{writeBoard, writeAnswer, writeWords, readBoard, readAnswer, setpointAnswer, setpointWords, armBoard, disarmBoard, armAnswer, replyBoard, replyAnswer, replyWords, eventBoard, eventAnswer, eventWords, userBoard, userAnswer};
 ghost use Rattle.records.specs.Requests.{requestOf};
 ghost use Rattle.tally.specs.Tallies.{tally, tallies};
 ghost use Rattle.board.specs.Worlds.{world};
@@ -124,31 +124,18 @@ fn disarm(s: RunState, number: u32) -> RunState
     counted(c, board::disarm(b, number))
 }
 
-fn tick(s: RunState, setpoints: &[u32]) -> RunState
-    ensures { λ r. ⌜ (r .board ≡ tickBoard (s .board) (now (setpoints .entry))) × (r .counts ≡ tally (s .counts) (tickBoardAnswer (s .board) (now (setpoints .entry)))) ⌝ }
-{
-    let b = s.board;
-    let c = s.counts;
-    let w = board::tick(b, setpoints);
-    let board = w.board;
-    let frames = w.frames;
-    RunState {
-        board: board,
-        counts: c.tick(frames),
-    }
-}
-
 // A record of so many ticks makes that many ticks of the board.
 fn ticks(s: RunState, setpoints: &[u32], count: u32) -> RunState
     ensures { λ r. ⌜ (r .board ≡ ticked (s .board) (now (setpoints .entry)) count) × (r .counts ≡ tallies (s .counts) (tickAnswers (s .board) (now (setpoints .entry)) count)) ⌝ }
 {
-    let mut x = s;
-    let mut k: u32 = 0;
-    while k < count {
-        x = tick(x, setpoints);
-        k += 1;
+    let b = s.board;
+    let c = s.counts;
+    let x = board_ticks::ticks(b, setpoints, count);
+    let board = x.board;
+    RunState {
+        board: board,
+        counts: c.ticks(x.refused, x.first, x.second, x.third, x.fourth),
     }
-    x
 }
 
 // A bad record makes no call and is refused 9.

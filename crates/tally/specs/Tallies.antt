@@ -1,5 +1,5 @@
 -- Document 01, 'Run file and log line': what a run counts, by the answers that the board's calls gave and by nothing else.
-use Prim.Native.Nat.{ℕ, _+_}
+use Prim.Native.Nat.{ℕ, _+_, min, max}
 use mathlib.Core.Bool.{Bool, true, false, cond}
 use mathlib.Core.List.{List, [], _∷_}
 use lib.Dec.{ltb}
@@ -16,6 +16,10 @@ sends number (each a b c d) = isFrame (ofFour number a b c d)
 abbrev pub more : Bool → ℕ → ℕ
 more test n = cond test (cond (ltb n 4294967295) (n + 1) n) n
 
+-- so many more at once; `more-by` of proofs/TicksCounted.antt says that they are as many single ones
+abbrev pub moreBy : ℕ → ℕ → ℕ
+moreBy k n = max n (min (n + k) 4294967295)
+
 abbrev pub nothingYet : Counts
 nothingYet = record { steps = 0; refused = 0; first = 0; second = 0; third = 0; fourth = 0 }
 
@@ -29,6 +33,18 @@ tally c x =
       second = more (sends 2 x) (c .second);
       third = more (sends 3 x) (c .third);
       fourth = more (sends 4 x) (c .fourth);
+    }
+
+-- the answers of ticks in a row counted at once: so many were refused, and so many frames of channels 1 to 4
+unfoldable pub tallyTicks : Counts → ℕ → ℕ → ℕ → ℕ → ℕ → Counts
+tallyTicks c refused first second third fourth =
+    record {
+      steps = c .steps;
+      refused = moreBy refused (c .refused);
+      first = moreBy first (c .first);
+      second = moreBy second (c .second);
+      third = moreBy third (c .third);
+      fourth = moreBy fourth (c .fourth);
     }
 
 -- answers counted, in order

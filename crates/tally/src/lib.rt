@@ -1,15 +1,13 @@
 // What a run counts: steps, refusals and the frames of channels 1 to 4, drawn from the answers of the board's calls.
-use board::Frames;
 use channel::Outcome;
 use channel::Shown;
-use channel_core::Line;
 use channel_core::Receipt;
 use refusal::Refusal;
 ghost use mathlib.Core.Path.{_≡_};
-ghost use Rattle.channel_core.specs.Answers.{receiptOf, lineOf, isRefusal, isFrame};
+ghost use Rattle.channel_core.specs.Answers.{receiptOf, isRefusal};
 ghost use Rattle.channel.specs.Answers.{outcomeOf, shownOf};
-ghost use Rattle.board.specs.Answers.{one, framesOf};
-ghost use Rattle.tally.specs.Tallies.{nothingYet, tally};
+ghost use Rattle.board.specs.Answers.{one};
+ghost use Rattle.tally.specs.Tallies.{nothingYet, tally, moreBy, tallyTicks};
 ghost use Rattle.tally.specs.Tallies.{more as Tallies·more, stepped as Tallies·stepped};
 
 pub struct Counts {
@@ -38,6 +36,16 @@ fn more(test: bool, n: u32) -> u32
         return n;
     }
     n
+}
+
+// So many more, at once.
+fn more_by(k: u32, n: u32) -> u32
+    ensures { λ r. ⌜ r ≡ moreBy k n ⌝ }
+{
+    if k < 4294967295 - n {
+        return n + k;
+    }
+    4294967295
 }
 
 fn is_refused_outcome(x: Outcome) -> bool
@@ -69,15 +77,6 @@ fn is_refused_reply(x: Receipt) -> bool
     }
 }
 
-fn is_frame(x: Line) -> bool
-    ensures { λ r. ⌜ r ≡ isFrame (lineOf x) ⌝ }
-{
-    match x {
-        Line::Silent => false,
-        Line::Frame(_) => true,
-    }
-}
-
 impl Counts {
     pub fn nothing() -> Self
         ensures { λ r. ⌜ r ≡ nothingYet ⌝ }
@@ -100,7 +99,7 @@ impl Counts {
         self
     }
 
-    // The answer of a call counted: of one that has nothing to tell, of a read, of a reply, of a tick.
+    // The answer of a call counted: of one that has nothing to tell, of a read, of a reply.
     pub fn outcome(mut self, x: Outcome) -> Self
         ensures { λ r. ⌜ r ≡ tally self (one (outcomeOf x)) ⌝ }
     {
@@ -122,21 +121,15 @@ impl Counts {
         self
     }
 
-    pub fn tick(mut self, x: Frames) -> Self
-        ensures { λ r. ⌜ r ≡ tally self (framesOf x) ⌝ }
+    // The answers of ticks in a row: so many were refused, and so many frames of channels 1 to 4.
+    pub fn ticks(mut self, refused: u32, first: u32, second: u32, third: u32, fourth: u32) -> Self
+        ensures { λ r. ⌜ r ≡ tallyTicks self refused first second third fourth ⌝ }
     {
-        match x {
-            Frames::Each(a, b, c, d) => {
-                self.first = more(is_frame(a), self.first);
-                self.second = more(is_frame(b), self.second);
-                self.third = more(is_frame(c), self.third);
-                self.fourth = more(is_frame(d), self.fourth);
-                self
-            }
-            Frames::Refused(_) => {
-                self.refused = more(true, self.refused);
-                self
-            }
-        }
+        self.refused = more_by(refused, self.refused);
+        self.first = more_by(first, self.first);
+        self.second = more_by(second, self.second);
+        self.third = more_by(third, self.third);
+        self.fourth = more_by(fourth, self.fourth);
+        self
     }
 }

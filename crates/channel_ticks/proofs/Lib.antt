@@ -1,0 +1,3 @@
+pub mod QuietTicks
+pub mod Captures
+pub mod TicksInRow
