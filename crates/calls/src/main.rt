@@ -7,11 +7,13 @@ use call_script::script;
 use call_script::script::Header;
 use call_script::script::Records;
 use libc::STDIN_FILENO;
+use output::Block;
 
 // Opens the board of the header, and prints the answer as record 0.
-fn begin(h: Header, setpoints: &[u32], readbacks: &[u32]) -> Board {
-    output::decimal(0);
+fn begin(block: &mut Block, h: Header, setpoints: &[u32], readbacks: &[u32]) -> Board {
+    output::decimal(block, 0);
     let b = script_record::open(
+        block,
         h.n,
         h.m,
         setpoints,
@@ -19,12 +21,13 @@ fn begin(h: Header, setpoints: &[u32], readbacks: &[u32]) -> Board {
         readbacks,
         h.m as usize * 8,
     );
-    output::end_line();
+    output::end_line(block);
     b
 }
 
 // Every record of the script.
 fn records(
+    block: &mut Block,
     b: Board,
     script: &[u8],
     count: u16,
@@ -36,31 +39,33 @@ fn records(
     while number < count {
         number += 1;
         let r = script::record_at(script, number);
-        board = script_record::line(board, setpoints, readbacks, r, number);
+        board = script_record::line(block, board, setpoints, readbacks, r, number);
     }
     board
 }
 
-fn run(script: &[u8], count: u16) {
+fn run(block: &mut Block, script: &[u8], count: u16) {
     let mut setpoints = [0u32; 2048];
     let mut readbacks = [0u32; 512];
     let h = script::header_of(script);
     pool::fill(&mut setpoints, &mut readbacks, h.seed, h.mask);
-    let b = begin(h, &setpoints, &readbacks);
-    let c = records(b, script, count, &mut setpoints, &mut readbacks);
-    ending::lines(c, &setpoints, &readbacks);
+    let b = begin(block, h, &setpoints, &readbacks);
+    let c = records(block, b, script, count, &mut setpoints, &mut readbacks);
+    ending::lines(block, c, &setpoints, &readbacks);
 }
 
-fn bad() {
-    output::text(b"script bad\n");
+fn bad(block: &mut Block) {
+    output::text(block, b"script bad\n");
 }
 
 fn main() {
+    let mut block = output::empty();
     let mut bytes = [0u8; 65537];
     let n = io::read_full(STDIN_FILENO, &mut bytes);
     let records = script::records_of(n);
     match records {
-        Records::Count(k) => run(&bytes[..n], k),
-        Records::Bad => bad(),
+        Records::Count(k) => run(&mut block, &bytes[..n], k),
+        Records::Bad => bad(&mut block),
     }
+    output::flush(&mut block);
 }

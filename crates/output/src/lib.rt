@@ -1,25 +1,28 @@
-// What the test programs write to standard output, piece by piece.
-use libc::STDOUT_FILENO;
+// What the programs `trace` and `calls` print: text and numbers, gathered in a block.
+mod block;
+
+pub use block::Block;
+pub use block::empty;
+pub use block::flush;
+pub use block::text;
 ghost use mathlib.Core.Path.{_≡_};
 ghost use Prim.Native.Nat.{_%_};
 ghost use Rattle.output.specs.Digits.{hexDigit};
 
-pub fn text(bytes: &[u8]) {
-    io::write_all(STDOUT_FILENO, bytes);
+pub fn end_line(block: &mut Block) {
+    text(block, b"\n");
 }
 
-pub fn end_line() {
-    text(b"\n");
-}
-
-pub fn decimal(x: u64) {
-    io::print_decimal(STDOUT_FILENO, x);
+pub fn decimal(block: &mut Block, x: u64) {
+    let mut digits = [0u8; 20];
+    let k = io::decimal(x, &mut digits);
+    text(block, &digits[..k]);
 }
 
 // Words and a number after them.
-pub fn numbered(bytes: &[u8], x: u64) {
-    text(bytes);
-    decimal(x);
+pub fn numbered(block: &mut Block, bytes: &[u8], x: u64) {
+    text(block, bytes);
+    decimal(block, x);
 }
 
 // The lowest hexadecimal digit of a number, upper-case.
@@ -34,39 +37,39 @@ fn hex_digit(x: u64) -> u8
 }
 
 // The lowest four digits of a number.
-fn hex_four(x: u64) {
+fn hex_four(block: &mut Block, x: u64) {
     let a = hex_digit(x / 4096);
     let b = hex_digit(x / 256);
     let c = hex_digit(x / 16);
     let d = hex_digit(x);
-    text(&[a, b, c, d]);
+    text(block, &[a, b, c, d]);
 }
 
 // A register's value: four digits.
-pub fn hex_value(x: u16) {
-    hex_four(x as u64);
+pub fn hex_value(block: &mut Block, x: u16) {
+    hex_four(block, x as u64);
 }
 
 // A word of lent memory: eight.
-pub fn hex_word(x: u32) {
-    hex_four(x as u64 / 65536);
-    hex_four(x as u64);
+pub fn hex_word(block: &mut Block, x: u32) {
+    hex_four(block, x as u64 / 65536);
+    hex_four(block, x as u64);
 }
 
 // A frame: eleven.
-pub fn hex_frame(x: u64) {
+pub fn hex_frame(block: &mut Block, x: u64) {
     let a = hex_digit(x / 0x100_0000_0000);
     let b = hex_digit(x / 0x10_0000_0000);
     let c = hex_digit(x / 0x1_0000_0000);
-    text(&[a, b, c]);
-    hex_four(x / 65536);
-    hex_four(x);
+    text(block, &[a, b, c]);
+    hex_four(block, x / 65536);
+    hex_four(block, x);
 }
 
 // A digest: sixteen.
-pub fn hex_digest(x: u64) {
-    hex_four(x / 0x1_0000_0000_0000);
-    hex_four(x / 0x1_0000_0000);
-    hex_four(x / 65536);
-    hex_four(x);
+pub fn hex_digest(block: &mut Block, x: u64) {
+    hex_four(block, x / 0x1_0000_0000_0000);
+    hex_four(block, x / 0x1_0000_0000);
+    hex_four(block, x / 65536);
+    hex_four(block, x);
 }

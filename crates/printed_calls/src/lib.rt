@@ -9,69 +9,80 @@ use channel::PartLength;
 use channel::Shown;
 use channel_core::Line;
 use channel_core::Receipt;
+use output::Block;
 use refusal::Refusal;
 
-pub fn ok() {
-    output::text(b" ok");
+pub fn ok(block: &mut Block) {
+    output::text(block, b" ok");
 }
 
-pub fn refused(k: Refusal) {
-    output::numbered(b" refused ", refusal::number(k) as u64);
+pub fn refused(block: &mut Block, k: Refusal) {
+    output::numbered(block, b" refused ", refusal::number(k) as u64);
 }
 
-fn outcome(o: Outcome) {
+fn outcome(block: &mut Block, o: Outcome) {
     match o {
-        Outcome::Done => ok(),
-        Outcome::Refused(k) => refused(k),
+        Outcome::Done => ok(block),
+        Outcome::Refused(k) => refused(block, k),
     }
 }
 
-fn value(v: u16) {
-    output::text(b" value ");
-    output::hex_value(v);
+fn value(block: &mut Block, v: u16) {
+    output::text(block, b" value ");
+    output::hex_value(block, v);
 }
 
-fn shown(s: Shown) {
+fn shown(block: &mut Block, s: Shown) {
     match s {
-        Shown::Value(v) => value(v),
-        Shown::Refused(k) => refused(k),
+        Shown::Value(v) => value(block, v),
+        Shown::Refused(k) => refused(block, k),
     }
 }
 
-fn receipt(r: Receipt) {
+fn receipt(block: &mut Block, r: Receipt) {
     match r {
-        Receipt::Kept => output::text(b" kept"),
-        Receipt::Lost => output::text(b" lost"),
-        Receipt::Unsolicited => output::text(b" unasked"),
-        Receipt::Refused(k) => refused(k),
+        Receipt::Kept => output::text(block, b" kept"),
+        Receipt::Lost => output::text(block, b" lost"),
+        Receipt::Unsolicited => output::text(block, b" unasked"),
+        Receipt::Refused(k) => refused(block, k),
     }
 }
 
 // Prints the outcome, and hands on the board after the call.
-fn done(w: Written) -> Board {
+fn done(block: &mut Block, w: Written) -> Board {
     let board = w.board;
     let o = w.outcome;
-    outcome(o);
+    outcome(block, o);
     board
 }
 
-pub fn open(n: u32, m: u32, setpoints: &[u32], readbacks: &[u32]) -> Board {
-    done(board::open(n, m, setpoints, readbacks))
+pub fn open(block: &mut Block, n: u32, m: u32, setpoints: &[u32], readbacks: &[u32]) -> Board {
+    done(block, board::open(n, m, setpoints, readbacks))
 }
 
-pub fn write_register(b: Board, readbacks: &mut [u32], address: u32, value: u16) -> Board {
-    done(board_registers::write_register(b, readbacks, address, value))
+pub fn write_register(
+    block: &mut Block,
+    b: Board,
+    readbacks: &mut [u32],
+    address: u32,
+    value: u16,
+) -> Board {
+    done(
+        block,
+        board_registers::write_register(b, readbacks, address, value),
+    )
 }
 
-pub fn read_register(b: Board, address: u32) -> Board {
+pub fn read_register(block: &mut Block, b: Board, address: u32) -> Board {
     let w = board_registers::read_register(b, address);
     let board = w.board;
     let s = w.shown;
-    shown(s);
+    shown(block, s);
     board
 }
 
 pub fn write_setpoint(
+    block: &mut Block,
     b: Board,
     setpoints: &mut [u32],
     number: u32,
@@ -80,147 +91,156 @@ pub fn write_setpoint(
     index: u32,
     word: u32,
 ) -> Board {
-    outcome(board::write_setpoint(b, setpoints, number, user, buffer, index, word));
+    outcome(
+        block,
+        board::write_setpoint(b, setpoints, number, user, buffer, index, word),
+    );
     b
 }
 
-pub fn arm(b: Board, number: u32) -> Board {
-    done(board::arm(b, number))
+pub fn arm(block: &mut Block, b: Board, number: u32) -> Board {
+    done(block, board::arm(b, number))
 }
 
-pub fn disarm(b: Board, number: u32) -> Board {
-    done(board::disarm(b, number))
+pub fn disarm(block: &mut Block, b: Board, number: u32) -> Board {
+    done(block, board::disarm(b, number))
 }
 
-pub fn reply(b: Board, readbacks: &mut [u32], number: u32, frame: u64) -> Board {
+pub fn reply(block: &mut Block, b: Board, readbacks: &mut [u32], number: u32, frame: u64) -> Board {
     let w = board::reply(b, readbacks, number, frame);
     let board = w.board;
     let r = w.receipt;
-    receipt(r);
+    receipt(block, r);
     board
 }
 
 // A word of a part.
-fn word(w: u32) {
-    output::text(b" ");
-    output::hex_word(w);
+fn word(block: &mut Block, w: u32) {
+    output::text(block, b" ");
+    output::hex_word(block, w);
 }
 
-fn words(part: &[u32]) {
+fn words(block: &mut Block, part: &[u32]) {
     let mut i: usize = 0;
     while i < part.len() {
-        word(part[i]);
+        word(block, part[i]);
         i += 1;
     }
 }
 
-pub fn retired<'a>(b: Board, number: u32, one: &'a [u32], two: &'a [u32]) {
-    output::text(b" part");
-    words(board::retired(b, number, one, two));
+pub fn retired<'a>(block: &mut Block, b: Board, number: u32, one: &'a [u32], two: &'a [u32]) {
+    output::text(block, b" part");
+    words(block, board::retired(b, number, one, two));
 }
 
-pub fn retired_length<'a>(b: Board, number: u32, one: &'a [u32], two: &'a [u32]) {
+pub fn retired_length<'a>(
+    block: &mut Block,
+    b: Board,
+    number: u32,
+    one: &'a [u32],
+    two: &'a [u32],
+) {
     let length = board::retired_length(b, number, one, two);
     match length {
-        PartLength::Words(n) => output::numbered(b" length ", n as u64),
-        PartLength::Refused(k) => refused(k),
+        PartLength::Words(n) => output::numbered(block, b" length ", n as u64),
+        PartLength::Refused(k) => refused(block, k),
     }
 }
 
 // A channel's retired count, asked with its own two buffers, after these words.
-fn retired_count(b: Board, readbacks: &[u32], channel: u8, words: &[u8]) {
+fn retired_count(block: &mut Block, b: Board, readbacks: &[u32], channel: u8, words: &[u8]) {
     let one = pool::part(readbacks, lent::first_buffer(0, b.m, channel));
     let two = pool::part(readbacks, lent::second_buffer(0, b.m, channel));
     let length = board::retired_length(b, channel as u32, one, two);
     match length {
-        PartLength::Words(n) => output::numbered(words, n as u64),
+        PartLength::Words(n) => output::numbered(block, words, n as u64),
         PartLength::Refused(_) => {}
     }
 }
 
 // The retired counts of channels 1 to 4.
-pub fn retired_counts(b: Board, readbacks: &[u32], words: &[u8]) {
-    retired_count(b, readbacks, 1, words);
-    retired_count(b, readbacks, 2, words);
-    retired_count(b, readbacks, 3, words);
-    retired_count(b, readbacks, 4, words);
+pub fn retired_counts(block: &mut Block, b: Board, readbacks: &[u32], words: &[u8]) {
+    retired_count(block, b, readbacks, 1, words);
+    retired_count(block, b, readbacks, 2, words);
+    retired_count(block, b, readbacks, 3, words);
+    retired_count(block, b, readbacks, 4, words);
 }
 
-pub fn event(b: Board, readbacks: &mut [u32], code: u8) -> Board {
-    done(board::event(b, readbacks, code))
+pub fn event(block: &mut Block, b: Board, readbacks: &mut [u32], code: u8) -> Board {
+    done(block, board::event(b, readbacks, code))
 }
 
-pub fn change_user(b: Board, user: u32) -> Board {
-    done(board::change_user(b, user))
+pub fn change_user(block: &mut Block, b: Board, user: u32) -> Board {
+    done(block, board::change_user(b, user))
 }
 
-pub fn interrupt_level(b: Board) {
-    output::numbered(b" level ", board::interrupt_level(b) as u64);
+pub fn interrupt_level(block: &mut Block, b: Board) {
+    output::numbered(block, b" level ", board::interrupt_level(b) as u64);
 }
 
-fn frame(tick: u32, channel: u64, x: u64) {
-    output::numbered(b" ", tick as u64);
-    output::numbered(b":", channel);
-    output::text(b":");
-    output::hex_frame(x);
+fn frame(block: &mut Block, tick: u32, channel: u64, x: u64) {
+    output::numbered(block, b" ", tick as u64);
+    output::numbered(block, b":", channel);
+    output::text(block, b":");
+    output::hex_frame(block, x);
 }
 
 // A channel's frame in a tick, or nothing.
-fn line(tick: u32, channel: u64, l: Line) {
+fn line(block: &mut Block, tick: u32, channel: u64, l: Line) {
     match l {
         Line::Silent => {}
-        Line::Frame(x) => frame(tick, channel, x),
+        Line::Frame(x) => frame(block, tick, channel, x),
     }
 }
 
 // The frames of one tick, by channel.
-fn lines(tick: u32, frames: Frames) {
+fn lines(block: &mut Block, tick: u32, frames: Frames) {
     match frames {
         Frames::Each(one, two, three, four) => {
-            line(tick, 1, one);
-            line(tick, 2, two);
-            line(tick, 3, three);
-            line(tick, 4, four);
+            line(block, tick, 1, one);
+            line(block, tick, 2, two);
+            line(block, tick, 3, three);
+            line(block, tick, 4, four);
         }
         Frames::Refused(_) => {}
     }
 }
 
-fn tick(b: Board, setpoints: &[u32], number: u32) -> Board {
+fn tick(block: &mut Block, b: Board, setpoints: &[u32], number: u32) -> Board {
     let w = board::tick(b, setpoints);
     let board = w.board;
     let frames = w.frames;
-    lines(number, frames);
+    lines(block, number, frames);
     board
 }
 
 // As many ticks, each with its frames.
-fn each_tick(b: Board, setpoints: &[u32], count: u32) -> Board {
+fn each_tick(block: &mut Block, b: Board, setpoints: &[u32], count: u32) -> Board {
     let mut board = b;
     let mut t: u32 = 0;
     while t < count {
         t += 1;
-        board = tick(board, setpoints, t);
+        board = tick(block, board, setpoints, t);
     }
     board
 }
 
-fn taken(b: Board, setpoints: &[u32], count: u32) -> Board {
-    output::text(b" ticks");
-    each_tick(b, setpoints, count)
+fn taken(block: &mut Block, b: Board, setpoints: &[u32], count: u32) -> Board {
+    output::text(block, b" ticks");
+    each_tick(block, b, setpoints, count)
 }
 
 // As many ticks. All of them are refused or none is: a tick whose board is dropped tells.
-pub fn ticks(b: Board, setpoints: &[u32], count: u32) -> Board {
+pub fn ticks(block: &mut Block, b: Board, setpoints: &[u32], count: u32) -> Board {
     if count == 0 {
-        return taken(b, setpoints, 0);
+        return taken(block, b, setpoints, 0);
     }
     let w = board::tick(b, setpoints);
     let frames = w.frames;
     match frames {
-        Frames::Each(_, _, _, _) => taken(b, setpoints, count),
+        Frames::Each(_, _, _, _) => taken(block, b, setpoints, count),
         Frames::Refused(k) => {
-            refused(k);
+            refused(block, k);
             b
         }
     }

@@ -1,32 +1,45 @@
 // Reads a run file from standard input, makes its records' calls on one board and prints each answer, then what the memory holds. One byte past 65,536 is enough to know a longer file.
 use board_state::Board;
 use libc::STDIN_FILENO;
+use output::Block;
 use records::RecordsLength;
 use records::Request;
 use refusal::Refusal;
 
 // A record's call, and the board after it.
-fn call(b: Board, setpoints: &mut [u32], readbacks: &mut [u32], q: Request) -> Board {
+fn call(
+    block: &mut Block,
+    b: Board,
+    setpoints: &mut [u32],
+    readbacks: &mut [u32],
+    q: Request,
+) -> Board {
     match q {
         Request::Write { address, value } => {
-            printed_calls::write_register(b, readbacks, address, value)
+            printed_calls::write_register(block, b, readbacks, address, value)
         }
-        Request::Read { address } => printed_calls::read_register(b, address),
+        Request::Read { address } => printed_calls::read_register(block, b, address),
         Request::Setpoint {
             number,
             user,
             buffer,
             index,
             word,
-        } => printed_calls::write_setpoint(b, setpoints, number, user, buffer, index, word),
-        Request::Event { code } => printed_calls::event(b, readbacks, code),
-        Request::Ticks { count } => printed_calls::ticks(b, setpoints, count),
-        Request::Reply { number, frame } => printed_calls::reply(b, readbacks, number, frame),
-        Request::User { user } => printed_calls::change_user(b, user),
-        Request::Arm { number } => printed_calls::arm(b, number),
-        Request::Disarm { number } => printed_calls::disarm(b, number),
+        } => printed_calls::write_setpoint(block, b, setpoints, number, user, buffer, index, word),
+        Request::Event { code } => printed_calls::event(block, b, readbacks, code),
+        Request::Ticks { count } => printed_calls::ticks(block, b, setpoints, count),
+        Request::Reply { number, frame } => printed_calls::reply(
+            block,
+            b,
+            readbacks,
+            number,
+            frame,
+        ),
+        Request::User { user } => printed_calls::change_user(block, b, user),
+        Request::Arm { number } => printed_calls::arm(block, b, number),
+        Request::Disarm { number } => printed_calls::disarm(block, b, number),
         Request::Bad => {
-            printed_calls::refused(Refusal::BadRecord);
+            printed_calls::refused(block, Refusal::BadRecord);
             b
         }
     }
@@ -34,20 +47,27 @@ fn call(b: Board, setpoints: &mut [u32], readbacks: &mut [u32], q: Request) -> B
 
 // One record's line.
 fn line(
+    block: &mut Block,
     b: Board,
     setpoints: &mut [u32],
     readbacks: &mut [u32],
     q: Request,
     number: usize,
 ) -> Board {
-    output::decimal(number as u64);
-    let board = call(b, setpoints, readbacks, q);
-    output::end_line();
+    output::decimal(block, number as u64);
+    let board = call(block, b, setpoints, readbacks, q);
+    output::end_line(block);
     board
 }
 
 // Every record of the part.
-fn play(b: Board, part: &[u8], setpoints: &mut [u32], readbacks: &mut [u32]) -> Board {
+fn play(
+    block: &mut Block,
+    b: Board,
+    part: &[u8],
+    setpoints: &mut [u32],
+    readbacks: &mut [u32],
+) -> Board {
     let mut board = b;
     let mut number: usize = 0;
     while number < part.len() / 8 {
@@ -55,57 +75,59 @@ fn play(b: Board, part: &[u8], setpoints: &mut [u32], readbacks: &mut [u32]) -> 
         let e = a + 8;
         let q = records::decode(&part[a..e]);
         number += 1;
-        board = line(board, setpoints, readbacks, q, number);
+        board = line(block, board, setpoints, readbacks, q, number);
     }
     board
 }
 
 // A word by its index; nothing for 0.
-fn word(index: usize, w: u32) {
+fn word(block: &mut Block, index: usize, w: u32) {
     if w != 0 {
-        output::numbered(b" ", index as u64);
-        output::text(b"=");
-        output::hex_word(w);
+        output::numbered(block, b" ", index as u64);
+        output::text(block, b"=");
+        output::hex_word(block, w);
     }
 }
 
 // Every word that is not 0.
-fn words(memory: &[u32]) {
+fn words(block: &mut Block, memory: &[u32]) {
     let mut i: usize = 0;
     while i < memory.len() {
-        word(i, memory[i]);
+        word(block, i, memory[i]);
         i += 1;
     }
 }
 
 // The line after the records: the readback memory, and the retired counts.
-fn end(b: Board, readbacks: &[u32]) {
-    output::text(b"end");
-    words(readbacks);
-    printed_calls::retired_counts(b, readbacks, b" r");
-    output::end_line();
+fn end(block: &mut Block, b: Board, readbacks: &[u32]) {
+    output::text(block, b"end");
+    words(block, readbacks);
+    printed_calls::retired_counts(block, b, readbacks, b" r");
+    output::end_line(block);
 }
 
 // The records on a zeroed board of depths 16 and 64, and the last line.
-fn trace(part: &[u8]) {
+fn trace(block: &mut Block, part: &[u8]) {
     let mut setpoints = [0u32; 1024];
     let mut readbacks = [0u32; 512];
     let w = board::open(16, 64, &setpoints, &readbacks);
     let b = w.board;
-    let c = play(b, part, &mut setpoints, &mut readbacks);
-    end(c, &readbacks);
+    let c = play(block, b, part, &mut setpoints, &mut readbacks);
+    end(block, c, &readbacks);
 }
 
-fn refused() {
-    output::text(b"file 8\n");
+fn refused(block: &mut Block) {
+    output::text(block, b"file 8\n");
 }
 
 fn main() {
+    let mut block = output::empty();
     let mut file = [0u8; 65537];
     let n = io::read_full(STDIN_FILENO, &mut file);
     let answer = records::records_length(&file[..n]);
     match answer {
-        RecordsLength::Bytes(_) => trace(records::records(&file[..n])),
-        RecordsLength::Refused(_) => refused(),
+        RecordsLength::Bytes(_) => trace(&mut block, records::records(&file[..n])),
+        RecordsLength::Refused(_) => refused(&mut block),
     }
+    output::flush(&mut block);
 }

@@ -7,10 +7,10 @@ use Rattle.calls.proofs.records.Statement.{statement}
 use Rattle.calls.proofs.records.Tie as tie
 
 abbrev Inv-loop : tie.InvT-loop
-Inv-loop script count setpoints₀ readbacks₀ board₀ number₀ setpoints readbacks board number = (length setpoints ≡ length setpoints₀) × (length readbacks ≡ length readbacks₀)
+Inv-loop block₀ script count setpoints₀ readbacks₀ board₀ number₀ block setpoints readbacks board number = (length setpoints ≡ length setpoints₀) × (length readbacks ≡ length readbacks₀)
 
 abbrev μ-loop : tie.MeasureT-loop
-μ-loop script count setpoints₀ readbacks₀ board₀ number₀ setpoints readbacks board number = count - number
+μ-loop block₀ script count setpoints₀ readbacks₀ board₀ number₀ block setpoints readbacks board number = count - number
 
 loop-holds : tie.Need-loop-holds Inv-loop μ-loop
 loop-holds c = search needs

@@ -5,10 +5,10 @@ use Rattle.printed_calls.proofs.each_tick.Statement.{statement}
 use Rattle.printed_calls.proofs.each_tick.Tie as tie
 
 abbrev Inv-loop : tie.InvT-loop
-Inv-loop setpoints count board₀ t₀ board t = Unit {0}
+Inv-loop block₀ setpoints count board₀ t₀ block board t = Unit {0}
 
 abbrev μ-loop : tie.MeasureT-loop
-μ-loop setpoints count board₀ t₀ board t = count - t
+μ-loop block₀ setpoints count board₀ t₀ block board t = count - t
 
 loop-holds : tie.Need-loop-holds Inv-loop μ-loop
 loop-holds c = search needs

@@ -6,10 +6,10 @@ use Rattle.printed_calls.proofs.words.Statement.{statement}
 use Rattle.printed_calls.proofs.words.Tie as tie
 
 abbrev Inv-loop : tie.InvT-loop
-Inv-loop part i₀ i = Unit {0}
+Inv-loop block₀ part i₀ block i = Unit {0}
 
 abbrev μ-loop : tie.MeasureT-loop
-μ-loop part i₀ i = length part - i
+μ-loop block₀ part i₀ block i = length part - i
 
 loop-holds : tie.Need-loop-holds Inv-loop μ-loop
 loop-holds c = search needs

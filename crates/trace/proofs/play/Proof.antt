@@ -7,10 +7,10 @@ use Rattle.trace.proofs.play.Statement.{statement}
 use Rattle.trace.proofs.play.Tie as tie
 
 abbrev Inv-loop : tie.InvT-loop
-Inv-loop part setpoints₀ readbacks₀ board₀ number₀ setpoints readbacks board number = (length setpoints ≡ length setpoints₀) × (length readbacks ≡ length readbacks₀)
+Inv-loop block₀ part setpoints₀ readbacks₀ board₀ number₀ block setpoints readbacks board number = (length setpoints ≡ length setpoints₀) × (length readbacks ≡ length readbacks₀)
 
 abbrev μ-loop : tie.MeasureT-loop
-μ-loop part setpoints₀ readbacks₀ board₀ number₀ setpoints readbacks board number = length part / 8 - number
+μ-loop block₀ part setpoints₀ readbacks₀ board₀ number₀ block setpoints readbacks board number = length part / 8 - number
 
 loop-holds : tie.Need-loop-holds Inv-loop μ-loop
 loop-holds c = search needs

@@ -6,10 +6,10 @@ use Rattle.trace.proofs.words.Statement.{statement}
 use Rattle.trace.proofs.words.Tie as tie
 
 abbrev Inv-loop : tie.InvT-loop
-Inv-loop memory i₀ i = Unit {0}
+Inv-loop block₀ memory i₀ block i = Unit {0}
 
 abbrev μ-loop : tie.MeasureT-loop
-μ-loop memory i₀ i = length memory - i
+μ-loop block₀ memory i₀ block i = length memory - i
 
 loop-holds : tie.Need-loop-holds Inv-loop μ-loop
 loop-holds c = search needs

@@ -5,10 +5,10 @@ use Rattle.calls.proofs.ending.registers.Statement.{statement}
 use Rattle.calls.proofs.ending.registers.Tie as tie
 
 abbrev Inv-loop : tie.InvT-loop
-Inv-loop channel board₀ offset₀ board offset = Unit {0}
+Inv-loop block₀ channel board₀ offset₀ block board offset = Unit {0}
 
 abbrev μ-loop : tie.MeasureT-loop
-μ-loop channel board₀ offset₀ board offset = 2048 - offset
+μ-loop block₀ channel board₀ offset₀ block board offset = 2048 - offset
 
 loop-holds : tie.Need-loop-holds Inv-loop μ-loop
 loop-holds c = search needs

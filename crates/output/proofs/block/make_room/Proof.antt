@@ -1,0 +1,33 @@
+use mathlib.Core.Path.{refl, sym, _∙_}
+use mathlib.Core.Logic.{inl, inr}
+use native.Mathlib.Omega.{arith}
+use Rattle.output.proofs.Blocks.{full-gathered}
+use borrow.Author.Needs.{needs}
+use Rattle.output.proofs.block.make_room.Statement.{statement}
+use Rattle.output.proofs.block.make_room.Tie as tie
+use Rattle.output.proofs.block.make_room.Reads as reads
+use Rattle.output.proofs.block.make_room.Lts as lts
+use Rattle.output.proofs.block.count.Reads as count-reads
+use Rattle.output.proofs.block.flush.Reads as flush-reads
+
+-- src/block.rt:75:8
+count-requires : tie.Need-count-requires
+count-requires c κs = search needs
+
+-- src/block.rt:76:9
+flush-requires : tie.Need-flush-requires
+flush-requires c κs = search needs
+
+-- src/block.rt:72:1
+returns : tie.Need-returns
+returns c =
+    let full = c .before .before .if1 .taken in
+    let known = c .before .before .before .count .ensures in
+    inl (sym (known .count) ∙ full, full-gathered known full, c .flush .ensures .handed (omega (arith, known .count)))
+
+-- src/block.rt:72:1
+returns-2 : tie.Need-returns-2
+returns-2 c = inr (λ e. c .if1 .left (c .before .count .ensures .count ∙ e), refl)
+
+pub make-room-spec : {M : Type 1} → statement M
+make-room-spec = tie.close (tie.spec count-requires flush-requires returns returns-2)

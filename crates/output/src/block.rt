@@ -1,0 +1,119 @@
+// A block that gathers what is printed until it is written, many pieces at a time: a call of the operating system for each piece would take
+// longer than all the rest.
+use libc::STDOUT_FILENO;
+ghost use mathlib.Core.Path.{_≡_};
+ghost use mathlib.Core.List.{[], _∷_};
+ghost use Prim.Native.Nat.{_+_, _≤_, _<_};
+ghost use lib.ListN.{length};
+ghost use Rattle.output.specs.Blocks.{countOf, withCount, Counted, Prints, Flushed, Roomy};
+
+// The bytes that a block gathers: enough frames that a write costs each next to nothing, and few enough for the stack.
+const ROOM: usize = 8192;
+
+// What is gathered, from the start, and in the last two bytes how much that is, the high byte first. The count stands in the block so that
+// one parameter is handed down. A count above ROOM closes the block: a write failed, and nothing is gathered or written any more, so that
+// what was written is always the first part of what was printed.
+pub type Block = [u8; 8194];
+
+// The count of a closed block.
+const CLOSED: usize = 65535;
+
+pub fn empty() -> Block
+    ensures { λ r. ⌜ countOf r ≡ 0 ⌝ }
+{
+    [0; 8194]
+}
+
+fn count(block: &Block) -> usize
+    ensures { λ r. ⌜ Counted r (now (block .entry)) ⌝ }
+{
+    let bytes: &[u8] = block;
+    bytes[8192] as usize * 256 + bytes[8193] as usize
+}
+
+fn set_count(block: &mut Block, n: usize)
+    requires { ⌜ n < 65536 ⌝ }
+    ensures { λ _. ⌜ now (block .exit) ≡ withCount (now (block .entry)) n ⌝ }
+{
+    block[8192] = (n / 256) as u8;
+    block[8193] = (n % 256) as u8;
+}
+
+// Writes the first bytes, and says whether that went well.
+fn write(bytes: &[u8], n: usize) -> bool
+    requires { ⌜ n ≤ length (now bytes) ⌝ }
+{
+    io::write_all(STDOUT_FILENO, &bytes[..n])
+}
+
+// Writes what is gathered. A program that ends calls this last.
+pub fn flush(block: &mut Block)
+    ensures { λ _. ⌜ Flushed (now (block .entry)) (now (block .exit)) ⌝ }
+{
+    let n = count(block);
+    if ROOM < n {
+        return;
+    }
+    if write(block, n) {
+        set_count(block, 0);
+        return;
+    }
+    set_count(block, CLOSED);
+}
+
+// Writes what is gathered, if the block is full.
+fn make_room(block: &mut Block)
+    ensures { λ _. ⌜ Roomy (now (block .entry)) (now (block .exit)) ⌝ }
+{
+    if count(block) == ROOM {
+        flush(block);
+    }
+}
+
+fn byte(block: &mut Block, x: u8)
+    ensures { λ _. ⌜ Prints (now (block .entry)) (now (block .exit)) (x ∷ []) ⌝ }
+{
+    make_room(block);
+    let n = count(block);
+    if n < ROOM {
+        block[n] = x;
+        set_count(block, n + 1);
+    }
+}
+
+// Bytes for which there may be no room: one by one.
+fn across(block: &mut Block, bytes: &[u8])
+    ensures { λ _. ⌜ Prints (now (block .entry)) (now (block .exit)) (now (bytes .entry)) ⌝ }
+{
+    let mut i: usize = 0;
+    while i < bytes.len() {
+        byte(block, bytes[i]);
+        i += 1;
+    }
+}
+
+// Bytes for which there is room, after n that are gathered.
+fn put(block: &mut Block, n: usize, bytes: &[u8])
+    requires { ⌜ Counted n (now block) ⌝ }
+    requires { ⌜ n + length (now bytes) ≤ 8192 ⌝ }
+    ensures { λ _. ⌜ Prints (now (block .entry)) (now (block .exit)) (now (bytes .entry)) ⌝ }
+{
+    let mut i: usize = 0;
+    while i < bytes.len() {
+        block[n + i] = bytes[i];
+        i += 1;
+    }
+    set_count(block, n + bytes.len());
+}
+
+// Prints these bytes.
+pub fn text(block: &mut Block, bytes: &[u8])
+    ensures { λ _. ⌜ Prints (now (block .entry)) (now (block .exit)) (now (bytes .entry)) ⌝ }
+{
+    let n = count(block);
+    if n + bytes.len() <= ROOM {
+        put(block, n, bytes);
+    } else {
+        across(block, bytes);
+    }
+}
