@@ -1,14 +1,15 @@
 -- Laws of a block: its count, and pieces printed one after the other. Assumes nothing.
-use Prim.Native.Nat.{ℕ, _+_, _*_, _/_, _%_, _≤_, _<_}
+use Prim.Native.Nat.{ℕ, _+_, _/_, _%_, _≤_, _<_}
 use mathlib.Core.Path.{_≡_, refl, sym, ap, _∙_, subst}
-use mathlib.Core.Logic.{_⊎_, inl, inr, ⊎-elim}
+use mathlib.Core.Bool.{Bool, true, false}
+use mathlib.Core.Logic.{inl, inr}
 use mathlib.Core.List.{List, [], _∷_, _++_, append-assoc, append-nil}
 use native.Mathlib.Numerals.{add-one}
 use native.Mathlib.Omega.{arith}
 use native.Mathlib.Nat.{lt-of-not-le}
 use lib.ListN.{length, getD, set, take, length-set, length-append}
 use lib.Seq.{length-take-le, take-all, take-length, take-suc, getD-set-same, getD-set-other, take-set-le, take-suc-set, paste, paste-suc, take-paste, length-paste}
-use Rattle.output.specs.Blocks.{countOf, withCount, gathered, Counted, Kept, Prints, Flushed, Handed, Roomy}
+use Rattle.output.specs.Blocks.{countOf, withCount, settled, gathered, Counted, Kept, Prints, Flushed, Handed, Roomy}
 
 -- a count that is stored is read back, and the bytes before it stay
 pub count-with : (block : List ℕ) (n : ℕ) → length block ≡ 8194 → countOf (withCount block n) ≡ n
@@ -80,13 +81,13 @@ pub piece-whole : {a b : List ℕ} (x : List ℕ) (i : ℕ) → length x ≤ i �
 piece-whole x i h p = rw take-all at p
 
 -- a block of which all was handed to a write
-pub flushed : {a b : List ℕ} {n : ℕ} (count : ℕ) → Counted n a → n ≤ 8192 → b ≡ withCount a count → (count ≡ 0) ⊎ (8192 < count) → Flushed a b
-flushed {a} {b} count known room e c =
-    let is : countOf b ≡ count = ap countOf e ∙ count-with a count (known .whole) in
-    record {
-      handed = λ h. ⊎-elim (λ z. inl (is ∙ z)) (λ l. inr (omega arith)) c;
-      closed = λ h. absurd (omega (arith, known .count));
-    }
+handed : (a : List ℕ) → length a ≡ 8194 → (done : Bool) → Handed (settled a done)
+unfolding settled
+handed a whole true = inl (count-with a 0 whole)
+handed a whole false = inr (omega (arith, count-with a 65535 whole))
+
+pub flushed : {a : List ℕ} {n : ℕ} → Counted n a → n ≤ 8192 → (done : Bool) → Flushed a (settled a done)
+flushed {a} known room done = record { handed = λ h. handed a (known .whole) done; closed = λ h. absurd (omega (arith, known .count)) }
 
 pub full-gathered : {n : ℕ} {a : List ℕ} → Counted n a → n ≡ 8192 → length (gathered a) ≡ 8192
 unfolding gathered

@@ -2,6 +2,7 @@
 -- with the bytes that it is handed cannot be stated.
 use Prim.Native.Nat.{ℕ, _+_, _*_, _/_, _%_, _≤_, _<_}
 use mathlib.Core.Path.{_≡_}
+use mathlib.Core.Bool.{Bool, true, false}
 use mathlib.Core.Logic.{_⊎_}
 use mathlib.Core.List.{List, _++_}
 use lib.ListN.{length, getD, set, take}
@@ -12,6 +13,11 @@ countOf block = getD block 8192 0 * 256 + getD block 8193 0
 
 unfoldable pub withCount : List ℕ → ℕ → List ℕ
 withCount block n = set (set block 8192 (n / 256)) 8193 (n % 256)
+
+-- a block after a write that went well, and after one that failed
+unfoldable pub settled : List ℕ → Bool → List ℕ
+settled block true = withCount block 0
+settled block false = withCount block 65535
 
 -- the bytes that are gathered
 unfoldable pub gathered : List ℕ → List ℕ

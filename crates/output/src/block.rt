@@ -5,7 +5,7 @@ ghost use mathlib.Core.Path.{_≡_};
 ghost use mathlib.Core.List.{[], _∷_};
 ghost use Prim.Native.Nat.{_+_, _≤_, _<_};
 ghost use lib.ListN.{length};
-ghost use Rattle.output.specs.Blocks.{countOf, withCount, Counted, Prints, Flushed, Roomy};
+ghost use Rattle.output.specs.Blocks.{countOf, withCount, settled, Counted, Prints, Flushed, Roomy};
 
 // The bytes that a block gathers: enough frames that a write costs each next to nothing, and few enough for the stack.
 const ROOM: usize = 8192;
@@ -46,19 +46,26 @@ fn write(bytes: &[u8], n: usize) -> bool
     io::write_all(STDOUT_FILENO, &bytes[..n])
 }
 
-// Writes what is gathered. A program that ends calls this last.
+// After a write: nothing is gathered any more, and if the write failed the block is closed.
+fn settle(block: &mut Block, went_well: bool)
+    ensures { λ _. ⌜ now (block .exit) ≡ settled (now (block .entry)) «went_well» ⌝ }
+{
+    if went_well {
+        set_count(block, 0);
+    } else {
+        set_count(block, CLOSED);
+    }
+}
+
+// Writes what is gathered. The last call of a program that prints.
 pub fn flush(block: &mut Block)
     ensures { λ _. ⌜ Flushed (now (block .entry)) (now (block .exit)) ⌝ }
 {
     let n = count(block);
-    if ROOM < n {
-        return;
+    if n <= ROOM {
+        let went_well = write(block, n);
+        settle(block, went_well);
     }
-    if write(block, n) {
-        set_count(block, 0);
-        return;
-    }
-    set_count(block, CLOSED);
 }
 
 // Writes what is gathered, if the block is full.

@@ -1,40 +1,29 @@
-use Rattle.output.proofs.Blocks.{byte-put, byte-lost}
+-- `block::byte` meets its contract: the byte goes after those that are gathered, or the block is closed. Assumes nothing.
 use borrow.Author.Needs.{needs}
+use Rattle.output.proofs.Blocks.{byte-put, byte-lost}
 use Rattle.output.proofs.block.byte.Statement.{statement}
 use Rattle.output.proofs.block.byte.Tie as tie
-use Rattle.output.proofs.block.byte.Reads as reads
-use Rattle.output.proofs.block.byte.Lts as lts
-use Rattle.output.proofs.block.count.Reads as count-reads
-use Rattle.output.proofs.block.make_room.Reads as make-room-reads
-use Rattle.output.proofs.block.set_count.Reads as set-count-reads
 
--- src/block.rt:83:5
 make-room-requires : tie.Need-make-room-requires
 make-room-requires c κs = search needs
 
--- src/block.rt:84:9
 count-requires : tie.Need-count-requires
 count-requires c κs = search needs
 
--- src/block.rt:86:9
 element-write-block : tie.Need-element-write-block
 element-write-block c = search needs
 
--- src/block.rt:87:26
 add-set-count : tie.Need-add-set-count
 add-set-count c = search needs
 
--- src/block.rt:87:9
 set-count-requires : tie.Need-set-count-requires
 set-count-requires c κs = search needs
 
--- src/block.rt:80:1
 returns : tie.Need-returns
 returns c =
     rw (c .set-count .ensures)
     (byte-put _ _ (c .before .before .before .count .ensures) (c .before .before .if1 .taken) (c .before .before .before .before .before .make-room .ensures))
 
--- src/block.rt:80:1
 returns-2 : tie.Need-returns-2
 returns-2 c = byte-lost _ (c .before .count .ensures) (c .if1 .left) (c .before .before .before .make-room .ensures)
 

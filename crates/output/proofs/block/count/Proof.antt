@@ -1,37 +1,29 @@
+-- `block::count` meets its contract: lent as a slice, the block is known to be whole and its bytes to be below 256. Assumes nothing.
 use mathlib.Core.Path.{refl}
 use native.Mathlib.Omega.{arith}
-use Rattle.output.specs.Blocks.{countOf}
 use borrow.Author.Needs.{needs}
+use Rattle.output.specs.Blocks.{countOf}
 use Rattle.output.proofs.block.count.Statement.{statement}
 use Rattle.output.proofs.block.count.Tie as tie
-use Rattle.output.proofs.block.count.Reads as reads
-use Rattle.output.proofs.block.count.Lts as lts
 
--- src/block.rt:31:5
 shared-slice-read-result : tie.Need-shared-slice-read-result
 shared-slice-read-result c = search needs
 
--- src/block.rt:31:5
 cast-result : tie.Need-cast-result
 cast-result c = omega (arith, c .shared-slice-known .given 8192)
 
--- src/block.rt:31:5
 mul-result : tie.Need-mul-result
 mul-result c = omega (arith, c .shared-slice-known .given 8192)
 
--- src/block.rt:31:34
 shared-slice-read-result-2 : tie.Need-shared-slice-read-result-2
 shared-slice-read-result-2 c = search needs
 
--- src/block.rt:31:34
 cast-result-2 : tie.Need-cast-result-2
 cast-result-2 c = omega (arith, c .shared-slice-known2 .given 8193)
 
--- src/block.rt:31:5
 add-result : tie.Need-add-result
 add-result c = omega (arith, c .shared-slice-known2 .given 8192, c .shared-slice-known2 .given 8193)
 
--- src/block.rt:27:1
 returns : tie.Need-returns
 unfolding countOf
 returns c =

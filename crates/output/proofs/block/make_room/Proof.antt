@@ -1,31 +1,24 @@
+-- `block::make_room` meets its contract, by the test on the count. Assumes nothing.
 use mathlib.Core.Path.{refl, sym, _∙_}
 use mathlib.Core.Logic.{inl, inr}
 use native.Mathlib.Omega.{arith}
-use Rattle.output.proofs.Blocks.{full-gathered}
 use borrow.Author.Needs.{needs}
+use Rattle.output.proofs.Blocks.{full-gathered}
 use Rattle.output.proofs.block.make_room.Statement.{statement}
 use Rattle.output.proofs.block.make_room.Tie as tie
-use Rattle.output.proofs.block.make_room.Reads as reads
-use Rattle.output.proofs.block.make_room.Lts as lts
-use Rattle.output.proofs.block.count.Reads as count-reads
-use Rattle.output.proofs.block.flush.Reads as flush-reads
 
--- src/block.rt:75:8
 count-requires : tie.Need-count-requires
 count-requires c κs = search needs
 
--- src/block.rt:76:9
 flush-requires : tie.Need-flush-requires
 flush-requires c κs = search needs
 
--- src/block.rt:72:1
 returns : tie.Need-returns
 returns c =
     let full = c .before .before .if1 .taken in
     let known = c .before .before .before .count .ensures in
     inl (sym (known .count) ∙ full, full-gathered known full, c .flush .ensures .handed (omega (arith, known .count)))
 
--- src/block.rt:72:1
 returns-2 : tie.Need-returns-2
 returns-2 c = inr (λ e. c .if1 .left (c .before .count .ensures .count ∙ e), refl)
 
