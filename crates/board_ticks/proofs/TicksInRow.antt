@@ -1,21 +1,24 @@
 -- Ticks in a row of any board, on any memory: channel by channel they are the board's single ticks. Assumes nothing.
-use Prim.Native.Nat.{ℕ, zero, suc}
+use Prim.Native.Nat.{ℕ, zero, suc, _≤_}
 use mathlib.Core.Path.{_≡_, refl, sym, ap, _∙_}
 use mathlib.Core.Bool.{Bool, true, false, cond}
 use mathlib.Core.List.{List, [], _∷_}
+use native.Mathlib.Omega.{arith}
 use lib.ListN.{length, getD, set}
 use Rattle.channel_core.specs.declared.Channel.{Channel}
 use Rattle.channel_core.specs.Answers.{Answer}
 use Rattle.channel_core.specs.State.{opened}
-use Rattle.channel_core.specs.Behaviour.{tickOf, tickAnswer}
-use Rattle.channel_ticks.specs.Ticks.{ticksOf, answerAfter, framesAt, captured}
+use Rattle.channel_core.specs.Behaviour.{tickOf}
+use Rattle.channel_ticks.specs.Ticks.{ticksOf, answerAfter, framesAt, withFrame}
+use Rattle.channel_ticks.specs.Quiet as one
+use Rattle.channel_ticks.proofs.TicksInRow as channel
 use Rattle.sequencer.specs.Playing.{ticked}
 use Rattle.board_state.specs.declared.Board.{Board}
 use Rattle.board_state.specs.State.{channelAt, withChannelAt, withChannels}
 use Rattle.board_state.specs.Parts.{own}
-use Rattle.board.specs.Answers.{BoardAnswer, one, each, ofFour}
+use Rattle.board.specs.Answers as answers
 use Rattle.board.specs.Calls.{setpointSize, setpointsFit, sizeMismatch, tickChannel, tickFrame, tickBoard, tickBoardAnswer, noChannel}
-use Rattle.board_ticks.specs.Ticks.{ticksChannel, ticksBoard, ticksLine}
+use Rattle.board_ticks.specs.Ticks.{channelTicks, channelFrames, channelFramesAt, ticksBoard, ticksFrames, ticksFramesAt, quietTicks}
 
 -- each channel moved by itself
 abbrev four : List Channel → (ℕ → Channel → Channel) → List Channel
@@ -69,12 +72,12 @@ ticks-opened s n user (suc k) =
 
 module _ (b : Board) (s : List ℕ) where
   -- A tick that is refused changes nothing.
-  pub tick-refused : setpointsFit b (length s) ≡ false → (tickBoard b s ≡ b) × (tickBoardAnswer b s ≡ one sizeMismatch)
+  pub tick-refused : setpointsFit b (length s) ≡ false → (tickBoard b s ≡ b) × (tickBoardAnswer b s ≡ answers.one sizeMismatch)
   unfolding tickBoard tickBoardAnswer
   tick-refused h = (rw h, rw h)
 
   pub ticks-none : ticksBoard b s 0 ≡ b
-  unfolding ticksBoard ticksChannel ticksOf
+  unfolding ticksBoard channelTicks ticksOf
   ticks-none = go (setpointsFit b (length s))
     where
       go : (t : Bool) → cond t (moved b (λ j c. c)) b ≡ b
@@ -88,7 +91,7 @@ module _ (b : Board) (s : List ℕ) where
   module _ (fit : setpointsFit b (length s) ≡ true) where
     -- Ticks in a row, channel by channel, are the board's.
     pub ticks-next : (k : ℕ) → tickBoard (ticksBoard b s k) s ≡ ticksBoard b s (suc k)
-    unfolding ticksBoard ticksChannel ticksOf tickBoard tickChannel
+    unfolding ticksBoard channelTicks ticksOf tickBoard tickChannel
     ticks-next k =
         rw fit
         (rw fit
@@ -97,15 +100,29 @@ module _ (b : Board) (s : List ℕ) where
         (λ j c. tickOf c (own s (setpointSize b) j) (b .n) (b .user)))))
 
     -- So is what they answer.
-    pub ticks-answer : (k : ℕ) → tickBoardAnswer (ticksBoard b s k) s ≡ each (answerOf 1 k) (answerOf 2 k) (answerOf 3 k) (answerOf 4 k)
-    unfolding ticksBoard ticksChannel tickBoardAnswer tickFrame
+    pub ticks-answer : (k : ℕ) → tickBoardAnswer (ticksBoard b s k) s ≡ answers.each (answerOf 1 k) (answerOf 2 k) (answerOf 3 k) (answerOf 4 k)
+    unfolding ticksBoard channelTicks tickBoardAnswer tickFrame
     ticks-answer k =
         let a = four-at (λ j c. ticksOf c (own s (setpointSize b) j) (b .n) (b .user) k)
         (λ j. ticks-opened (own s (setpointSize b) j) (b .n) (b .user) k) (b .channels) in
         rw fit (rw fit (simp (a .0, a .1, a .2, a .3)))
 
-    -- Each frame in a channel's line is the one that the tick of that place answered.
-    pub line-next : (number : ℕ) → noChannel number ≡ false → (k : ℕ) (l : List ℕ)
-        → ticksLine b s number (suc k) l ≡ captured (answerOf number k) k (ticksLine b s number k l)
-    unfolding ticksLine framesAt
-    line-next number h k l = rw (h, fit)
+    -- Each frame of a channel's list is the one that the tick of that place answered.
+    pub frames-next : (number : ℕ) → noChannel number ≡ false → (k : ℕ) (l : List ℕ)
+        → ticksFramesAt b s number (suc k) l ≡ withFrame (answerOf number k) k (ticksFramesAt b s number k l)
+    unfolding ticksFramesAt channelFramesAt framesAt
+    frames-next number h k l = rw (h, fit)
+
+  frames-none : (number k : ℕ) → k ≤ one.quietTicks (channelAt b number .sequencer) → ticksFrames b s number k ≡ 0
+  unfolding ticksFrames channelFrames
+  frames-none number k h = go (setpointsFit b (length s))
+    where
+      go : (t : Bool) → cond t (channelFrames b s number k) 0 ≡ 0
+      go true = channel.quiet-run (own s (setpointSize b) number) (b .n) (b .user) (channelAt b number) k h .1
+      go false = refl
+
+  -- As many ticks as are quiet answer no frame of any channel.
+  pub quiet-run : (k : ℕ) → k ≤ quietTicks b
+      → (ticksFrames b s 1 k ≡ 0) × (ticksFrames b s 2 k ≡ 0) × (ticksFrames b s 3 k ≡ 0) × (ticksFrames b s 4 k ≡ 0)
+  unfolding quietTicks
+  quiet-run k h = (frames-none 1 k (omega arith), frames-none 2 k (omega arith), frames-none 3 k (omega arith), frames-none 4 k (omega arith))

@@ -1,13 +1,16 @@
 // Ticks in a row of the board, nothing else happening meanwhile: each channel by itself, and the board put together once.
 use board_state::Board;
+use channel_core::Channel;
+use channel_ticks::quiet;
+use channel_ticks::quiet::least;
 ghost use mathlib.Core.Path.{_≡_};
 ghost use Prim.Native.Nat.{_*_, _≤_};
 ghost use lib.ListN.{length};
-ghost use Rattle.channel_ticks.specs.Ticks.{framesIn, framesAt};
+ghost use Rattle.channel_ticks.specs.Quiet.{quietTicks as Quiet·quietTicks};
+ghost use Rattle.channel_ticks.specs.Ticks.{ticksOf, framesIn, framesAt};
 ghost use Rattle.board_state.specs.State.{channelAt};
 ghost use Rattle.board_state.specs.Parts.{own};
-ghost use Rattle.board.specs.Calls.{setpointSize};
-ghost use Rattle.board_ticks.specs.Ticks.{ticksChannel, ticksBoard, ticksRefused, ticksFrames, ticksLine};
+ghost use Rattle.board_ticks.specs.Ticks.{ticksBoard, ticksRefused, ticksFrames, ticksFramesAt, quietTicks};
 
 // The board after ticks in a row, and what they answered: so many were refused, and so many frames of channels 1 to 4.
 pub struct Advanced {
@@ -19,31 +22,38 @@ pub struct Advanced {
     pub fourth: u32,
 }
 
-// One channel's ticks, over its part of the setpoints.
+// A channel's ticks, over its part of the setpoints. Handed the channel alone: to hand on the board would take longer than the ticks.
 fn ticks_channel(
-    b: Board,
+    c: Channel,
     setpoints: &[u32],
     number: u8,
+    n: u32,
+    user: u8,
     count: u32,
-    line: &mut [u64],
+    captured: &mut [u64],
 ) -> channel_ticks::Advanced
-    requires { ⌜ (number ≤ 4) × (length (now setpoints) ≡ b .n * 64) ⌝ }
-    ensures { λ r. ⌜ (r .channel ≡ ticksChannel b (now (setpoints .entry)) number count) × (r .frames ≡ framesIn (channelAt b number) (own (now (setpoints .entry)) (setpointSize b) number) (b .n) (b .user) count) × (now (line .exit) ≡ framesAt (channelAt b number) (own (now (setpoints .entry)) (setpointSize b) number) (b .n) (b .user) count (now (line .entry))) ⌝ }
+    requires { ⌜ (number ≤ 4) × (length (now setpoints) ≡ n * 64) ⌝ }
+    ensures { λ r. ⌜ (r .channel ≡ ticksOf c (own (now (setpoints .entry)) (n * 16) number) n user count) × (r .frames ≡ framesIn c (own (now (setpoints .entry)) (n * 16) number) n user count) × (now (captured .exit) ≡ framesAt c (own (now (setpoints .entry)) (n * 16) number) n user count (now (captured .entry))) ⌝ }
 {
-    let n = b.n;
-    let c = b.channel(number);
     let a = board_state::part_start(number, n, 16);
     let e = a + n as usize * 16;
-    channel_ticks::ticks(c, &setpoints[a..e], n, b.user, count, line)
+    channel_ticks::ticks(c, &setpoints[a..e], n, user, count, captured)
 }
 
 // The same, with no frame kept.
-fn count_channel(b: Board, setpoints: &[u32], number: u8, count: u32) -> channel_ticks::Advanced
-    requires { ⌜ (number ≤ 4) × (length (now setpoints) ≡ b .n * 64) ⌝ }
-    ensures { λ r. ⌜ (r .channel ≡ ticksChannel b (now (setpoints .entry)) number count) × (r .frames ≡ framesIn (channelAt b number) (own (now (setpoints .entry)) (setpointSize b) number) (b .n) (b .user) count) ⌝ }
+fn count_channel(
+    c: Channel,
+    setpoints: &[u32],
+    number: u8,
+    n: u32,
+    user: u8,
+    count: u32,
+) -> channel_ticks::Advanced
+    requires { ⌜ (number ≤ 4) × (length (now setpoints) ≡ n * 64) ⌝ }
+    ensures { λ r. ⌜ (r .channel ≡ ticksOf c (own (now (setpoints .entry)) (n * 16) number) n user count) × (r .frames ≡ framesIn c (own (now (setpoints .entry)) (n * 16) number) n user count) ⌝ }
 {
-    let mut line = [0u64; 0];
-    ticks_channel(b, setpoints, number, count, &mut line)
+    let mut none = [0u64; 0];
+    ticks_channel(c, setpoints, number, n, user, count, &mut none)
 }
 
 // So many ticks.
@@ -60,10 +70,12 @@ pub fn ticks(b: Board, setpoints: &[u32], count: u32) -> Advanced
             fourth: 0,
         };
     }
-    let one = count_channel(b, setpoints, 1, count);
-    let two = count_channel(b, setpoints, 2, count);
-    let three = count_channel(b, setpoints, 3, count);
-    let four = count_channel(b, setpoints, 4, count);
+    let n = b.n;
+    let user = b.user;
+    let one = count_channel(b.channel(1), setpoints, 1, n, user, count);
+    let two = count_channel(b.channel(2), setpoints, 2, n, user, count);
+    let three = count_channel(b.channel(3), setpoints, 3, n, user, count);
+    let four = count_channel(b.channel(4), setpoints, 4, n, user, count);
     let first = one.channel;
     let second = two.channel;
     let third = three.channel;
@@ -81,9 +93,9 @@ pub fn ticks(b: Board, setpoints: &[u32], count: u32) -> Advanced
     }
 }
 
-// The frames of channel 1 to 4 in the next so many ticks, put into `line`: that of tick k at k - 1, as far as it reaches. The board stays as it is.
-pub fn frames(b: Board, setpoints: &[u32], number: u32, count: u32, line: &mut [u64])
-    ensures { λ _. ⌜ now (line .exit) ≡ ticksLine b (now (setpoints .entry)) number count (now (line .entry)) ⌝ }
+// The frames of channel 1 to 4 in the next so many ticks: that of tick k at k - 1, as far as the slice reaches. The board stays as it is.
+pub fn frames(b: Board, setpoints: &[u32], number: u32, count: u32, captured: &mut [u64])
+    ensures { λ _. ⌜ now (captured .exit) ≡ ticksFramesAt b (now (setpoints .entry)) number count (now (captured .entry)) ⌝ }
 {
     if channel::is_outside(1, 4, number) {
         return;
@@ -91,5 +103,24 @@ pub fn frames(b: Board, setpoints: &[u32], number: u32, count: u32, line: &mut [
     if setpoints.len() != b.n as usize * 64 {
         return;
     }
-    ticks_channel(b, setpoints, number as u8, count, line);
+    let k = number as u8;
+    ticks_channel(b.channel(k), setpoints, k, b.n, b.user, count, captured);
+}
+
+// How many of the next ticks only count down, at the least.
+fn channel_quiet(b: Board, number: u8) -> u64
+    ensures { λ r. ⌜ r ≡ Quiet·quietTicks (channelAt b number .sequencer) ⌝ }
+{
+    let c = b.channel(number);
+    let sequencer = c.sequencer;
+    quiet::quiet_ticks(sequencer)
+}
+
+pub fn quiet_ticks(b: Board) -> u64
+    ensures { λ r. ⌜ r ≡ quietTicks b ⌝ }
+{
+    least(
+        least(channel_quiet(b, 1), channel_quiet(b, 2)),
+        least(channel_quiet(b, 3), channel_quiet(b, 4)),
+    )
 }

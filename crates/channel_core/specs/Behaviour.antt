@@ -130,9 +130,9 @@ sendStatus s transmission.Nothing = s
 sendStatus s (transmission.Word word k) = cond (eqb k 0) s (latched s k)
 
 -- "Setpoint frames carry the register's Frame ID, D15–D0 of the word, auxiliary 0."
-abbrev pub sendFrame : Registers → Transmission → Answer
-sendFrame r transmission.Nothing = ans.none
-sendFrame r (transmission.Word word k) = ans.frame (encoded (r .id) (word % 65536) 0)
+abbrev pub sendFrame : ℕ → Transmission → Answer
+sendFrame id transmission.Nothing = ans.none
+sendFrame id (transmission.Word word k) = ans.frame (encoded id (word % 65536) 0)
 
 -- "tick (1 µs)": the channel after it
 unfoldable pub tickOf : Channel → List ℕ → ℕ → ℕ → Channel
@@ -141,7 +141,7 @@ tickOf c s n user =
 
 -- "A tick answers with each channel's frame or none."
 unfoldable pub tickAnswer : Channel → List ℕ → ℕ → ℕ → Answer
-tickAnswer c s n user = sendFrame (c .registers) (playedOf c s n user .transmission)
+tickAnswer c s n user = sendFrame (c .registers .id) (playedOf c s n user .transmission)
 
 -- ---- A reply
 

@@ -9,11 +9,13 @@ use sequencer::Sequencer;
 use sequencer::Transmission;
 use status::Status;
 ghost use mathlib.Core.Path.{_≡_};
+ghost use Prim.Native.Nat.{_%_};
 ghost use lib.ListN.{getD};
+ghost use Rattle.frame.specs.Frames.{encoded};
 ghost use Rattle.status.specs.Bits.{bitOf};
 ghost use Rattle.channel_core.specs.Answers.{lineOf};
 ghost use Rattle.channel_core.specs.State.{opened, reset};
-ghost use Rattle.channel_core.specs.Behaviour.{started, earlyEnded, userChanged, groupEnded, endedIf, endedWords, startedIf, resumedIf, resumedOn, eventOf, eventWords, commanded, commandWords, setpointPlace, dueOf, tickOf, tickAnswer};
+ghost use Rattle.channel_core.specs.Behaviour.{started, earlyEnded, userChanged, groupEnded, endedIf, endedWords, startedIf, resumedIf, resumedOn, eventOf, eventWords, commanded, commandWords, setpointPlace, dueOf, sendStatus, sendFrame, tickOf, tickAnswer};
 
 pub struct Channel {
     pub status: Status,
@@ -73,6 +75,38 @@ fn early_ended(s: Status, q: Sequencer) -> Status
         return s.latched(status::EARLY_END);
     }
     s
+}
+
+// The status with what a send latches.
+pub fn send_status(s: Status, sent: Transmission) -> Status
+    ensures { λ r. ⌜ r ≡ sendStatus s sent ⌝ }
+{
+    match sent {
+        Transmission::Nothing => s,
+        Transmission::Word { word: _, condition } => {
+            if condition == 0 {
+                return s;
+            }
+            s.latched(condition)
+        }
+    }
+}
+
+// The frame of a setpoint: the Frame ID, D15-D0 of the word, auxiliary 0.
+pub fn setpoint_frame(id: u8, word: u32) -> u64
+    ensures { λ r. ⌜ r ≡ encoded id (word % 65536) 0 ⌝ }
+{
+    frame::encode(id, (word % 65536) as u16, 0)
+}
+
+// The frame of what a tick sends, or none.
+fn send_line(id: u8, sent: Transmission) -> Line
+    ensures { λ r. ⌜ lineOf r ≡ sendFrame id sent ⌝ }
+{
+    match sent {
+        Transmission::Nothing => Line::Silent,
+        Transmission::Word { word, condition: _ } => Line::Frame(setpoint_frame(id, word)),
+    }
 }
 
 impl Channel {
@@ -228,27 +262,16 @@ impl Channel {
     {
         let r = self.registers;
         let q = self.sequencer;
+        let s = self.status;
         let t = q.tick(self.due(setpoints, n, user), n, registers::period(r.clock));
         let next = t.sequencer;
         let sent = t.transmission;
         let mut c = self;
+        c.status = send_status(s, sent);
         c.sequencer = next;
-        match sent {
-            Transmission::Nothing => Ticked {
-                channel: c,
-                line: Line::Silent,
-            },
-            Transmission::Word { word, condition } => {
-                let line = Line::Frame(frame::encode(r.id, (word % 65536) as u16, 0));
-                if condition != 0 {
-                    let s = c.status;
-                    c.status = s.latched(condition);
-                }
-                Ticked {
-                    channel: c,
-                    line: line,
-                }
-            }
+        Ticked {
+            channel: c,
+            line: send_line(r.id, sent),
         }
     }
 }

@@ -1,11 +1,11 @@
 -- Quiet ticks, of any state, words, depths and periods: each only counts down, and transmits nothing. Assumes nothing.
-use Prim.Native.Nat.{ℕ, zero, suc, _-_, _≤_, _<_, min}
+use Prim.Native.Nat.{ℕ, suc, _-_, _≤_, _<_, min}
 use mathlib.Core.Path.{_≡_, refl, ap, _∙_}
 use mathlib.Core.Bool.{Bool, true, false, cond}
 use native.Mathlib.Omega.{arith}
 use native.Mathlib.Nat.{sub-zero}
 use lib.Dec.{leb}
-use borrow.Author.Tests.{le-leb, lt-leb, leb-true, leb-false}
+use borrow.Author.Tests.{le-leb, lt-leb, leb-true}
 use Rattle.sequencer.specs.Playing.{ticked, tickedAt, advancing, repeating, resuming, quiet, withLeft, withResume}
 use Rattle.channel_ticks.specs.Quiet.{quietAt, quietTicks, afterQuietAt, afterQuiet}
 use Rattle.sequencer.specs.declared.Stage.{Stage}

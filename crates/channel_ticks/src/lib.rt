@@ -2,6 +2,8 @@
 pub mod quiet;
 
 use channel_core::Channel;
+use channel_core::send_status;
+use channel_core::setpoint_frame;
 use channel_core::setpoint_place;
 use channel_core::word_at;
 use quiet::least;
@@ -15,9 +17,9 @@ ghost use Rattle.frame.specs.Frames.{encoded};
 ghost use Rattle.sequencer.specs.Playing.{ticked};
 ghost use Rattle.sequencer.specs.Runs.{asNumber};
 ghost use Rattle.channel_core.specs.State.{withStatus, withSequencer};
-ghost use Rattle.channel_core.specs.Behaviour.{sendStatus};
+ghost use Rattle.channel_core.specs.Behaviour.{sendStatus, sendFrame};
 ghost use Rattle.channel_ticks.specs.Quiet.{afterQuiet};
-ghost use Rattle.channel_ticks.specs.Ticks.{ticksOf, framesIn, framesAt, sendCaptured};
+ghost use Rattle.channel_ticks.specs.Ticks.{ticksOf, framesIn, withFrame, framesAt};
 
 // A channel after ticks in a row, and how many of them answered a frame.
 pub struct Advanced {
@@ -33,41 +35,43 @@ struct Progress {
 }
 
 // A frame put at its place; past the end none is kept, and none is worked out.
-fn capture(line: &mut [u64], at: usize, id: u8, word: u32)
-    ensures { λ _. ⌜ now (line .exit) ≡ set (now (line .entry)) at (encoded id (word % 65536) 0) ⌝ }
+fn capture(captured: &mut [u64], at: usize, id: u8, word: u32)
+    ensures { λ _. ⌜ now (captured .exit) ≡ set (now (captured .entry)) at (encoded id (word % 65536) 0) ⌝ }
 {
-    if at < line.len() {
-        line[at] = frame::encode(id, (word % 65536) as u16, 0);
+    if at < captured.len() {
+        captured[at] = setpoint_frame(id, word);
     }
 }
 
-// One tick, the frame put at its place.
-fn tick(x: Progress, due: u32, n: u32, period: u32, line: &mut [u64], at: usize, id: u8) -> Progress
+// One tick, its frame put at its place.
+fn tick(
+    x: Progress,
+    due: u32,
+    n: u32,
+    period: u32,
+    captured: &mut [u64],
+    at: usize,
+    id: u8,
+) -> Progress
     requires { ⌜ x .frames < 4294967295 ⌝ }
-    ensures { λ r. ⌜ (r .status ≡ sendStatus (x .status) (ticked (x .sequencer) due n period .transmission)) × (r .sequencer ≡ ticked (x .sequencer) due n period .sequencer) × (r .frames ≡ x .frames + asNumber (ticked (x .sequencer) due n period .transmission)) × (now (line .exit) ≡ sendCaptured id (ticked (x .sequencer) due n period .transmission) at (now (line .entry))) ⌝ }
+    ensures { λ r. ⌜ (r .status ≡ sendStatus (x .status) (ticked (x .sequencer) due n period .transmission)) × (r .sequencer ≡ ticked (x .sequencer) due n period .sequencer) × (r .frames ≡ x .frames + asNumber (ticked (x .sequencer) due n period .transmission)) × (now (captured .exit) ≡ withFrame (sendFrame id (ticked (x .sequencer) due n period .transmission)) at (now (captured .entry))) ⌝ }
 {
     let sequencer = x.sequencer;
     let status = x.status;
     let t = sequencer.tick(due, n, period);
     let next = t.sequencer;
     let sent = t.transmission;
+    let latched = send_status(status, sent);
     match sent {
         Transmission::Nothing => Progress {
-            status: status,
+            status: latched,
             sequencer: next,
             frames: x.frames,
         },
-        Transmission::Word { word, condition } => {
-            capture(line, at, id, word);
-            if condition == 0 {
-                return Progress {
-                    status: status,
-                    sequencer: next,
-                    frames: x.frames + 1,
-                };
-            }
+        Transmission::Word { word, condition: _ } => {
+            capture(captured, at, id, word);
             Progress {
-                status: status.latched(condition),
+                status: latched,
                 sequencer: next,
                 frames: x.frames + 1,
             }
@@ -113,16 +117,16 @@ fn finish(c: Channel, x: Progress) -> Advanced
     }
 }
 
-// So many ticks over the channel's own setpoints, their frames put into `line`, that of tick k at k - 1.
+// So many ticks over the channel's own setpoints, their frames captured: that of tick k at k - 1, as far as the slice reaches.
 pub fn ticks(
     c: Channel,
     setpoints: &[u32],
     n: u32,
     user: u8,
     count: u32,
-    line: &mut [u64],
+    captured: &mut [u64],
 ) -> Advanced
-    ensures { λ r. ⌜ (r .channel ≡ ticksOf c (now (setpoints .entry)) n user count) × (r .frames ≡ framesIn c (now (setpoints .entry)) n user count) × (now (line .exit) ≡ framesAt c (now (setpoints .entry)) n user count (now (line .entry))) ⌝ }
+    ensures { λ r. ⌜ (r .channel ≡ ticksOf c (now (setpoints .entry)) n user count) × (r .frames ≡ framesIn c (now (setpoints .entry)) n user count) × (now (captured .exit) ≡ framesAt c (now (setpoints .entry)) n user count (now (captured .entry))) ⌝ }
 {
     let registers = c.registers;
     let id = registers.id;
@@ -139,7 +143,7 @@ pub fn ticks(
         if k < count {
             let ready = x.sequencer;
             let due = word_at(setpoints, setpoint_place(at, second, n, ready.index));
-            x = tick(x, due, n, period, line, k as usize, id);
+            x = tick(x, due, n, period, captured, k as usize, id);
             k += 1;
         }
     }

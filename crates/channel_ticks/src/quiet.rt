@@ -17,7 +17,7 @@ fn lowered(count: u64, k: u64) -> u64
 }
 
 // The lesser of two.
-pub(crate) fn least(x: u64, y: u64) -> u64
+pub fn least(x: u64, y: u64) -> u64
     ensures { λ r. ⌜ r ≡ min x y ⌝ }
 {
     if x < y {

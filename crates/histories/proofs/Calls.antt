@@ -102,7 +102,7 @@ effect-steps o (call.reply lent f) = reply-steps (o .n) (o .channel) (o .m) f
 effect-steps o (call.retired one two) = same-steps (o .n) (o .channel) _ _ (refl, refl) refl
 effect-steps o (call.retiredLength one two) = same-steps (o .n) (o .channel) _ _ (refl, refl) refl
 effect-steps o (call.tick lent) =
-    tick-steps (o .n) (o .channel .sequencer) (o .channel .registers) (dueOf (o .channel) (o .setpoints) (o .n) (o .user))
+    tick-steps (o .n) (o .channel .sequencer) (o .channel .registers .id) (dueOf (o .channel) (o .setpoints) (o .n) (o .user))
     (periodOf (o .channel .registers .clock)) (period-some (o .channel .registers .clock))
 effect-steps o (call.event lent code) =
     keeps-steps (o .n) (o .channel) _ (triggersOf (o .channel .registers) groupEndEvent code) _ (refl, refl)

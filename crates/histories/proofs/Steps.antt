@@ -7,7 +7,6 @@ use lib.Dec.{ltb}
 use borrow.Author.Tests.{ltb-true}
 use Rattle.frame.specs.Frames.{Reading, read, crcRight}
 use Rattle.frame.specs.Frames as frame
-use Rattle.registers.specs.declared.Registers.{Registers}
 use Rattle.sequencer.specs.declared.LastSend.{LastSend}
 use Rattle.sequencer.specs.declared.Stage.the-variants as stage
 use Rattle.sequencer.specs.declared.Sequencer.{Sequencer}
@@ -100,27 +99,27 @@ idle-steps n s armed again =
 
 -- ---- A tick
 
-count-frame : (r : Registers) (x : Transmission) (c : ℕ) → countAfter x c ≡ cond (isFrame (sendFrame r x)) (counted c) c
-count-frame r transmission.Nothing c = refl
-count-frame r (transmission.Word word k) c = refl
+count-frame : (id : ℕ) (x : Transmission) (c : ℕ) → countAfter x c ≡ cond (isFrame (sendFrame id x)) (counted c) c
+count-frame id transmission.Nothing c = refl
+count-frame id (transmission.Word word k) c = refl
 
-window-frame : (r : Registers) (x : Transmission) (w : Window) → windowSent x w ≡ observed (sendFrame r x) w
-window-frame r transmission.Nothing w = refl
-window-frame r (transmission.Word word k) w = refl
+window-frame : (id : ℕ) (x : Transmission) (w : Window) → windowSent x w ≡ observed (sendFrame id x) w
+window-frame id transmission.Nothing w = refl
+window-frame id (transmission.Word word k) w = refl
 
 window-few : (x : Transmission) (w : Window) → w .replies ≤ 6 → windowSent x w .replies ≤ 6
 window-few transmission.Nothing w h = h
 window-few (transmission.Word word k) w h = omega arith
 
-pub tick-steps : (n : ℕ) (s : Sequencer) (r : Registers) (due p : ℕ) → 1 ≤ p
-    → Steps n s (sendFrame r (ticked s due n p .transmission)) false false false (ticked s due n p .sequencer)
-tick-steps n s r due p some =
+pub tick-steps : (n : ℕ) (s : Sequencer) (id due p : ℕ) → 1 ≤ p
+    → Steps n s (sendFrame id (ticked s due n p .transmission)) false false false (ticked s due n p .sequencer)
+tick-steps n s id due p some =
     let x = ticked s due n p .transmission in
     let a = plays-ticked s due n p in
     record {
-      count-step = counts s due n p ∙ count-frame r x (s .count);
+      count-step = counts s due n p ∙ count-frame id x (s .count);
       quiet-step = a .stays-quiet;
-      window-step = a .window ∙ window-frame r x (windowOf s);
+      window-step = a .window ∙ window-frame id x (windowOf s);
       replies-step = λ e. omega (arith, ap (λ (w : Window). w .replies) (a .window), window-few x (windowOf s) e);
       index-step = λ e. a .index-due;
       countdown-step = a .countdown some;

@@ -10,7 +10,6 @@ use Rattle.register_map.specs.AccessRule.{channelAccess, mainAccess}
 use Rattle.register_map.specs.Verdicts.{readRefusal, writeRefusal}
 use Rattle.sequencer.specs.declared.Transmission.{Transmission}
 use Rattle.sequencer.specs.declared.Transmission.the-variants as transmission
-use Rattle.registers.specs.declared.Registers.{Registers}
 use Rattle.channel_core.specs.declared.Channel.{Channel}
 use Rattle.channel_core.specs.Answers.{Answer, isRefusal}
 use Rattle.channel_core.specs.Answers as ans
@@ -30,9 +29,9 @@ withBoth o c s = withReadbacks (withChannel o c) s
 
 -- ---- Refused, it stands still
 
-frame-none : (r : Registers) (t : Transmission) → isRefusal (sendFrame r t) ≡ false
-frame-none r transmission.Nothing = refl
-frame-none r (transmission.Word word k) = refl
+frame-none : (id : ℕ) (t : Transmission) → isRefusal (sendFrame id t) ≡ false
+frame-none id transmission.Nothing = refl
+frame-none id (transmission.Word word k) = refl
 
 main-none : (c : Channel) (o : ℕ) → isRefusal (mainAnswer c o) ≡ false
 main-none c o =
@@ -53,7 +52,7 @@ module _ (o : OneChannel) where
   effect-still (to.retired k j) h = refl
   effect-still (to.retiredLength k j) h = refl
   effect-still (to.tick lent) h =
-      clash (sym (frame-none (o .channel .registers) (playedOf (o .channel) (o .setpoints) (o .n) (o .user) .transmission)) ∙ h)
+      clash (sym (frame-none (o .channel .registers .id) (playedOf (o .channel) (o .setpoints) (o .n) (o .user) .transmission)) ∙ h)
   effect-still (to.event lent x) h = clash h
   effect-still (to.changeUser u) h = clash h
   effect-still (to.writeMain lent x v) h = refl

@@ -9,7 +9,7 @@ use native.Mathlib.Omega.{arith}
 use native.Mathlib.Nat.{lt-of-not-le}
 use lib.ListN.{length, getD, set, take, length-set, length-append}
 use lib.Seq.{length-take-le, take-all, take-length, take-suc, getD-set-same, getD-set-other, take-set-le, take-suc-set, paste, paste-suc, take-paste, length-paste}
-use Rattle.output.specs.Blocks.{countOf, withCount, settled, gathered, Counted, Kept, Prints, Flushed, Handed, Roomy}
+use Rattle.output.specs.Blocks.{countOf, withCount, settled, gathered, Counted, InBlocks, Prints, Flushed, EmptyOrClosed, FlushedIfFull}
 
 -- a count that is stored is read back, and the bytes before it stay
 pub count-with : (block : List ℕ) (n : ℕ) → length block ≡ 8194 → countOf (withCount block n) ≡ n
@@ -50,7 +50,7 @@ module _ {a b c : List ℕ} (x y : List ℕ) (p : Prints a b x) (q : Prints b c 
   both-count : countOf a + length (x ++ y) ≤ 8192 → (countOf a + length x ≤ 8192) × (countOf b + length y ≤ 8192)
   both-count h = let first : countOf a + length x ≤ 8192 = omega (arith, length-append x y) in (first, omega (arith, length-append x y, p .count first))
 
-  both-kept : Kept (gathered a ++ x) b → Kept (gathered b ++ y) c → Kept (gathered a ++ (x ++ y)) c
+  both-kept : InBlocks (gathered a ++ x) b → InBlocks (gathered b ++ y) c → InBlocks (gathered a ++ (x ++ y)) c
   both-kept k l =
       record {
         blocks = k .blocks + l .blocks;
@@ -80,14 +80,14 @@ piece-more x i h p q = rw (add-one, take-suc x i 0 h) (both (take i x) (getD x i
 pub piece-whole : {a b : List ℕ} (x : List ℕ) (i : ℕ) → length x ≤ i → Prints a b (take i x) → Prints a b x
 piece-whole x i h p = rw take-all at p
 
--- a block of which all was handed to a write
-handed : (a : List ℕ) → length a ≡ 8194 → (done : Bool) → Handed (settled a done)
+-- a block that was written
+pub handed : (a : List ℕ) → length a ≡ 8194 → (done : Bool) → EmptyOrClosed (settled a done)
 unfolding settled
 handed a whole true = inl (count-with a 0 whole)
 handed a whole false = inr (omega (arith, count-with a 65535 whole))
 
 pub flushed : {a : List ℕ} {n : ℕ} → Counted n a → n ≤ 8192 → (done : Bool) → Flushed a (settled a done)
-flushed {a} known room done = record { handed = λ h. handed a (known .whole) done; closed = λ h. absurd (omega (arith, known .count)) }
+flushed {a} known room done = record { wentWell = done; settles = λ h. refl; closed = λ h. absurd (omega (arith, known .count)) }
 
 pub full-gathered : {n : ℕ} {a : List ℕ} → Counted n a → n ≡ 8192 → length (gathered a) ≡ 8192
 unfolding gathered
@@ -115,7 +115,7 @@ module _ {n : ℕ} (m : List ℕ) (x : ℕ) (known : Counted n m) (room : n < 81
   byte-first zero = byte-added ∙ ap (λ (k : ℕ). take k m ++ (x ∷ [])) zero
 
   -- after a full block was written, or where none was
-  pub byte-put : {b : List ℕ} → Roomy b m → Prints b (withCount (set m n x) (n + 1)) (x ∷ [])
+  pub byte-put : {b : List ℕ} → FlushedIfFull b m → Prints b (withCount (set m n x) (n + 1)) (x ∷ [])
   unfolding with-byte
   byte-put {b} (inl (full, size, inl zero)) =
       record {
@@ -130,7 +130,7 @@ module _ {n : ℕ} (m : List ℕ) (x : ℕ) (known : Counted n m) (room : n < 81
       (grown (x ∷ []) (omega (arith, known .count)) (omega (arith, byte-count, known .count)) byte-added)
 
 -- no room even so: the block is closed
-pub byte-lost : {n : ℕ} {b m : List ℕ} (x : ℕ) → Counted n m → 8192 ≤ n → Roomy b m → Prints b m (x ∷ [])
+pub byte-lost : {n : ℕ} {b m : List ℕ} (x : ℕ) → Counted n m → 8192 ≤ n → FlushedIfFull b m → Prints b m (x ∷ [])
 byte-lost x known no-room (inl (full, size, inl zero)) = absurd (omega (arith, known .count))
 byte-lost x known no-room (inl (full, size, inr closed)) =
     record { count = λ h. absurd (omega arith); added = λ h. absurd (omega arith); kept = λ h. absurd (omega arith); closed = λ h. absurd (omega arith) }

@@ -1,13 +1,12 @@
-// A block that gathers what is printed until it is written, many pieces at a time: a call of the operating system for each piece would take
-// longer than all the rest.
+// A block that gathers what is printed, and is written when it is full: a write for each piece would take longer than all the rest.
 use libc::STDOUT_FILENO;
 ghost use mathlib.Core.Path.{_≡_};
 ghost use mathlib.Core.List.{[], _∷_};
 ghost use Prim.Native.Nat.{_+_, _≤_, _<_};
 ghost use lib.ListN.{length};
-ghost use Rattle.output.specs.Blocks.{countOf, withCount, settled, Counted, Prints, Flushed, Roomy};
+ghost use Rattle.output.specs.Blocks.{countOf, withCount, settled, Counted, Prints, Flushed, FlushedIfFull};
 
-// The bytes that a block gathers: enough frames that a write costs each next to nothing, and few enough for the stack.
+// How many bytes a block gathers: over 400 frames, so that a write adds some nanoseconds to each.
 const ROOM: usize = 8192;
 
 // What is gathered, from the start, and in the last two bytes how much that is, the high byte first. The count stands in the block so that
@@ -70,7 +69,7 @@ pub fn flush(block: &mut Block)
 
 // Writes what is gathered, if the block is full.
 fn make_room(block: &mut Block)
-    ensures { λ _. ⌜ Roomy (now (block .entry)) (now (block .exit)) ⌝ }
+    ensures { λ _. ⌜ FlushedIfFull (now (block .entry)) (now (block .exit)) ⌝ }
 {
     if count(block) == ROOM {
         flush(block);

@@ -1,8 +1,6 @@
 // The board's calls, each with its answer printed: the words of tests/CALLS.md, Records, after the record's number.
-use board::Frames;
 use board::Written;
 use board_state::Board;
-use board_ticks::Advanced;
 use call_script::lent;
 use call_script::pool;
 use channel::Outcome;
@@ -11,8 +9,6 @@ use channel::Shown;
 use channel_core::Receipt;
 use output::Block;
 use refusal::Refusal;
-ghost use mathlib.Core.Path.{_≡_};
-ghost use Prim.Native.Nat.{min};
 
 pub fn ok(block: &mut Block) {
     output::text(block, b" ok");
@@ -178,102 +174,4 @@ pub fn change_user(block: &mut Block, b: Board, user: u32) -> Board {
 
 pub fn interrupt_level(block: &mut Block, b: Board) {
     output::numbered(block, b" level ", board::interrupt_level(b) as u64);
-}
-
-// A frame that was sent; 0 is none, since every frame ends in two stop bits.
-fn frame(block: &mut Block, tick: u64, channel: u64, x: u64) {
-    if x != 0 {
-        output::numbered(block, b" ", tick);
-        output::numbered(block, b":", channel);
-        output::text(block, b":");
-        output::hex_frame(block, x);
-    }
-}
-
-// How many ticks are taken at once: as many as a line of frames holds.
-fn at_once(rest: u32) -> u32
-    ensures { λ r. ⌜ r ≡ min rest 1024 ⌝ }
-{
-    if rest < 1024 { rest } else { 1024 }
-}
-
-// The frames of a channel, each at the place of its tick.
-type Line = [u64; 1024];
-
-// The frames of the ticks after the first `before`, by tick, then by channel.
-fn lines(block: &mut Block, before: u32, one: &Line, two: &Line, three: &Line, four: &Line) {
-    let mut k: usize = 0;
-    while k < 1024 {
-        let tick = before as u64 + k as u64 + 1;
-        frame(block, tick, 1, one[k]);
-        frame(block, tick, 2, two[k]);
-        frame(block, tick, 3, three[k]);
-        frame(block, tick, 4, four[k]);
-        k += 1;
-    }
-}
-
-// The frames of the next so many ticks, which come after the first `before`.
-fn frames(block: &mut Block, b: Board, setpoints: &[u32], before: u32, count: u32) {
-    let mut one = [0u64; 1024];
-    let mut two = [0u64; 1024];
-    let mut three = [0u64; 1024];
-    let mut four = [0u64; 1024];
-    board_ticks::frames(b, setpoints, 1, count, &mut one);
-    board_ticks::frames(b, setpoints, 2, count, &mut two);
-    board_ticks::frames(b, setpoints, 3, count, &mut three);
-    board_ticks::frames(b, setpoints, 4, count, &mut four);
-    lines(block, before, &one, &two, &three, &four);
-}
-
-// Whether a frame was sent.
-fn is_sent(x: Advanced) -> bool {
-    if 0 < x.first {
-        return true;
-    }
-    if 0 < x.second {
-        return true;
-    }
-    if 0 < x.third {
-        return true;
-    }
-    0 < x.fourth
-}
-
-// As many ticks, each with its frames. They are taken many at once, so that those on which nothing is sent cost nothing.
-fn each_tick(block: &mut Block, b: Board, setpoints: &[u32], count: u32) -> Board {
-    let mut board = b;
-    let mut before: u32 = 0;
-    while before < count {
-        let n = at_once(count - before);
-        let x = board_ticks::ticks(board, setpoints, n);
-        if is_sent(x) {
-            frames(block, board, setpoints, before, n);
-        }
-        let next = x.board;
-        board = next;
-        before += n;
-    }
-    board
-}
-
-fn taken(block: &mut Block, b: Board, setpoints: &[u32], count: u32) -> Board {
-    output::text(block, b" ticks");
-    each_tick(block, b, setpoints, count)
-}
-
-// As many ticks. All of them are refused or none is: a tick whose board is dropped tells.
-pub fn ticks(block: &mut Block, b: Board, setpoints: &[u32], count: u32) -> Board {
-    if count == 0 {
-        return taken(block, b, setpoints, 0);
-    }
-    let w = board::tick(b, setpoints);
-    let frames = w.frames;
-    match frames {
-        Frames::Each(_, _, _, _) => taken(block, b, setpoints, count),
-        Frames::Refused(k) => {
-            refused(block, k);
-            b
-        }
-    }
 }

@@ -9,14 +9,14 @@ use Rattle.channel_ticks.specs.Ticks.{framesIn}
 use Rattle.board_state.specs.declared.Board.{Board}
 use Rattle.board.specs.Answers.{BoardAnswer}
 use Rattle.board.specs.Calls.{setpointsFit, tickBoard, tickBoardAnswer}
-use Rattle.board_ticks.specs.Ticks.{ticksFrames, ticksBoard, ticksRefused}
+use Rattle.board_ticks.specs.Ticks.{channelFrames, ticksFrames, ticksBoard, ticksRefused}
 use Rattle.board_ticks.proofs.TicksInRow.{tick-refused, ticks-none, ticks-next, ticks-answer}
 use Rattle.tally.specs.declared.Counts.{Counts}
 use Rattle.tally.specs.Tallies.{tally, tallies, tallyTicks}
 use Rattle.tally.proofs.TicksCounted.{tally-none, tally-refused, tally-each}
 use Rattle.replay.specs.Worlds.{ticked, tickAnswers}
 
-pub tallies-append : (c : Counts) (xs ys : List BoardAnswer) → tallies c (xs ++ ys) ≡ tallies (tallies c xs) ys
+tallies-append : (c : Counts) (xs ys : List BoardAnswer) → tallies c (xs ++ ys) ≡ tallies (tallies c xs) ys
 unfolding tallies
 tallies-append c [] ys = refl
 tallies-append c (x ∷ xs) ys = tallies-append (tally c x) xs ys
@@ -62,7 +62,7 @@ module _ (b : Board) (s : List ℕ) where
   counts-taken : setpointsFit b (length s) ≡ true → (c : Counts) (k : ℕ)
       → tallies c (tickAnswers b s k)
       ≡ tallyTicks c 0 (ticksFrames b s 1 k) (ticksFrames b s 2 k) (ticksFrames b s 3 k) (ticksFrames b s 4 k)
-  unfolding tickAnswers tallies ticksFrames framesIn
+  unfolding tickAnswers tallies ticksFrames channelFrames framesIn
   counts-taken h c zero = rw h (sym (tally-none c))
   counts-taken h c (suc k) =
       counts-next c k (ticks-board k) (ticks-answer b s h k) (counts-taken h c k)

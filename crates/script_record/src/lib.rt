@@ -56,7 +56,7 @@ fn lent_call(block: &mut Block, b: Board, words: &mut [u32], r: Record) -> Board
         1 => printed_calls::write_register(block, b, words, r.x, (r.y % 65536) as u16),
         3 => write_setpoint(block, b, words, r),
         6 => reply(block, b, words, r),
-        9 => printed_calls::ticks(block, b, words, r.x % 65536),
+        9 => printed_ticks::ticks(block, b, words, r.x % 65536),
         _ => printed_calls::event(block, b, words, (r.x % 256) as u8),
     }
 }

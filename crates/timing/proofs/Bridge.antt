@@ -43,7 +43,7 @@ unfolding tickOf dueOf
 tick-with o s q = tick-transition (with o s q) (o .n * 64) refl
 
 response-with : (o : OneChannel) (s : Status) (q : Sequencer)
-    → response (with o s q) (oneTick o) ≡ sendFrame (o .channel .registers) (next (wordAt o) (o .n) (period o) q .transmission)
+    → response (with o s q) (oneTick o) ≡ sendFrame (o .channel .registers .id) (next (wordAt o) (o .n) (period o) q .transmission)
 unfolding tickAnswer dueOf
 response-with o s q = tick-response (with o s q) (o .n * 64) refl
 
@@ -61,17 +61,17 @@ after-with o (suc k) =
     = after-suc o k ∙ ap (λ (p : OneChannel). transition p (oneTick o)) (after-with o k) ∙ tick-with o t (played o k) in
     e ∙ ap (λ (x : Status). with o x (played o (suc k))) (sym (ap (λ (p : OneChannel). p .channel .status) e))
 
-response-after : (o : OneChannel) (k : ℕ) → response (after o k) (oneTick o) ≡ sendFrame (o .channel .registers) (plays o (suc k))
+response-after : (o : OneChannel) (k : ℕ) → response (after o k) (oneTick o) ≡ sendFrame (o .channel .registers .id) (plays o (suc k))
 unfolding sends
 response-after o k =
     ap (λ (p : OneChannel). response p (oneTick o)) (after-with o k) ∙ response-with o (after o k .channel .status) (played o k)
 
 -- tick j answers the frame of what the sequencer transmits, or none
-pub on-tick : (o : OneChannel) (j : ℕ) → 1 ≤ j → onTick o j ≡ sendFrame (o .channel .registers) (plays o j)
+pub on-tick : (o : OneChannel) (j : ℕ) → 1 ≤ j → onTick o j ≡ sendFrame (o .channel .registers .id) (plays o j)
 unfolding onTick
 on-tick o j h =
     let e : suc (j - 1) ≡ j = omega arith in
-    response-after o (j - 1) ∙ ap (λ (k : ℕ). sendFrame (o .channel .registers) (plays o k)) e
+    response-after o (j - 1) ∙ ap (λ (k : ℕ). sendFrame (o .channel .registers .id) (plays o k)) e
 
 pub bridge : the.Bridge
 bridge o k = (after-with o k, on-tick o (k + 1) (omega arith))
@@ -126,8 +126,8 @@ sent-after o k i s = subst (λ (p : OneChannel). Sent p i) (sym (after-with o k)
 pub next-frame : (o : OneChannel) (k i : ℕ) → 1 ≤ k → Leaves (wordAt o) (o .n) (period o) (o .channel .sequencer) k i → NextFrame o k i
 next-frame o k i some l =
     record {
-      silent = λ j a b. on-tick o j a ∙ ap (sendFrame (o .channel .registers)) (l .silent j b);
-      sent = on-tick o k some ∙ ap (sendFrame (o .channel .registers)) (l .sent);
+      silent = λ j a b. on-tick o j a ∙ ap (sendFrame (o .channel .registers .id)) (l .silent j b);
+      sent = on-tick o k some ∙ ap (sendFrame (o .channel .registers .id)) (l .sent);
       done = sent-after o k i (l .after);
     }
 
@@ -135,8 +135,8 @@ next-frame o k i some l =
 pub repeat : (o p : OneChannel) (word left j : ℕ) → 1 ≤ j → p .channel .registers ≡ o .channel .registers
     → Repeats word left (period o) j (plays p j) → Repeat o word left j (onTick p j)
 repeat o p word left j some same r =
-    let e = on-tick p j some ∙ ap (λ (x : Registers). sendFrame x (plays p j)) same in
+    let e = on-tick p j some ∙ ap (λ (x : Registers). sendFrame (x .id) (plays p j)) same in
     record {
-      on = λ b. e ∙ ap (sendFrame (o .channel .registers)) (r .on b);
-      off = λ b. e ∙ ap (sendFrame (o .channel .registers)) (r .off b);
+      on = λ b. e ∙ ap (sendFrame (o .channel .registers .id)) (r .on b);
+      off = λ b. e ∙ ap (sendFrame (o .channel .registers .id)) (r .off b);
     }

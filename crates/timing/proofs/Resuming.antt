@@ -159,8 +159,8 @@ resumes o k d at some =
     let l = laws.resume (wordAt o) (o .n) (period o) q k d at some (period-some o) in
     record {
       repeats = λ j a b. repeat o r (q .word) (q .left) j a refl (l .0 j b);
-      silent = λ j a b. on-tick r j (omega arith) ∙ ap (sendFrame (o .channel .registers)) (l .1 j a b);
-      sent = on-tick r (d + 10) (omega arith) ∙ ap (sendFrame (o .channel .registers)) (l .2);
+      silent = λ j a b. on-tick r j (omega arith) ∙ ap (sendFrame (o .channel .registers .id)) (l .1 j a b);
+      sent = on-tick r (d + 10) (omega arith) ∙ ap (sendFrame (o .channel .registers .id)) (l .2);
       done = sent-after r (d + 10) (q .index) (l .3);
       under-way = λ j h.
           ap (λ (x : OneChannel). x .channel .sequencer .stage) (after-with r j)

@@ -39,7 +39,7 @@ abbrev pub Bridge : Type 0
 Bridge =
     (o : OneChannel) (k : ℕ)
     → (after o k ≡ withChannel o (withSequencer (withStatus (o .channel) (after o k .channel .status)) (played o k)))
-    × (onTick o (k + 1) ≡ sendFrame (o .channel .registers) (plays o (k + 1)))
+    × (onTick o (k + 1) ≡ sendFrame (o .channel .registers .id) (plays o (k + 1)))
 
 -- so tick k + j from now is tick j after k ticks
 abbrev pub LaterTicks : Type 0

@@ -27,7 +27,7 @@ fn call(
             word,
         } => printed_calls::write_setpoint(block, b, setpoints, number, user, buffer, index, word),
         Request::Event { code } => printed_calls::event(block, b, readbacks, code),
-        Request::Ticks { count } => printed_calls::ticks(block, b, setpoints, count),
+        Request::Ticks { count } => printed_ticks::ticks(block, b, setpoints, count),
         Request::Reply { number, frame } => printed_calls::reply(
             block,
             b,

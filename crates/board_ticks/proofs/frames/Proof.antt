@@ -5,7 +5,7 @@ use Prim.Native.Nat.{_≤_}
 use mathlib.Core.Path.{sym, _∙_}
 use native.Mathlib.Omega.{arith}
 use Rattle.channel.proofs.Ranges.{inside}
-use Rattle.board_ticks.specs.Ticks.{ticksLine}
+use Rattle.board_ticks.specs.Ticks.{channelFramesAt, ticksFramesAt}
 use Rattle.board_ticks.proofs.frames.Statement.{statement}
 use Rattle.board_ticks.proofs.frames.Tie as tie
 
@@ -19,7 +19,7 @@ is-outside-requires : tie.Need-is-outside-requires
 is-outside-requires c κs = search needs
 
 returns : tie.Need-returns
-unfolding ticksLine
+unfolding ticksFramesAt
 returns c = rw (← c .before .is-outside .ensures) (simp (c .if1 .taken))
 
 cast-if2 : tie.Need-cast-if2
@@ -29,26 +29,31 @@ mul-if2 : tie.Need-mul-if2
 mul-if2 c = search needs
 
 returns-2 : tie.Need-returns-2
-unfolding ticksLine
+unfolding ticksFramesAt
 returns-2 c =
     let x = c .before .before in
     rw (← x .before .is-outside .ensures) (simp (x .if1 .left, ne-eqb _ _ (c .if2 .taken)))
 
-cast-ticks-channel : tie.Need-cast-ticks-channel
-cast-ticks-channel c = omega (arith, ranged (c .before .before))
+cast-k : tie.Need-cast-k
+cast-k c = omega (arith, ranged (c .before .before))
+
+channel-requires : tie.Need-channel-requires
+channel-requires c κs = search needs
 
 ticks-channel-requires : tie.Need-ticks-channel-requires
-ticks-channel-requires c κs = (omega (arith, ranged (c .before .before .before)), c .before .if2 .left)
+ticks-channel-requires c κs = (omega (arith, ranged (c .before .before .before .before)), c .before .before .if2 .left)
 
 same-length : tie.Need-same-length
 same-length c = search needs
 
 returns-3 : tie.Need-returns-3
-unfolding ticksLine
+unfolding ticksFramesAt channelFramesAt
 returns-3 c =
     let w = c .before .before in
-    let x = w .before .before .before .before in
-    rw (← x .before .is-outside .ensures) (simp (x .if1 .left, eq-eqb _ _ (w .before .before .if2 .left), w .ticks-channel .ensures .2))
+    let k = w .before .before in
+    let x = k .before .before .before in
+    rw (← x .before .is-outside .ensures)
+    (simp (x .if1 .left, eq-eqb _ _ (k .before .if2 .left), w .ticks-channel .ensures .2, k .channel .ensures))
 
 pub frames-spec : {M : Type 1} → statement M
 frames-spec =
@@ -59,7 +64,8 @@ frames-spec =
     cast-if2
     mul-if2
     returns-2
-    cast-ticks-channel
+    cast-k
+    channel-requires
     ticks-channel-requires
     same-length
     returns-3)

@@ -4,24 +4,17 @@ use Prim.Native.Nat.{_+_, _*_, _≤_}
 use native.Mathlib.Nat.{add-sub-cancel-left}
 use native.Mathlib.Omega.{arith}
 use Rattle.board_state.proofs.Parts.{part-within}
-use Rattle.board_ticks.specs.Ticks.{ticksChannel}
 use Rattle.board_ticks.proofs.ticks_channel.Statement.{statement}
 use Rattle.board_ticks.proofs.ticks_channel.Tie as tie
 
 -- the part lies within the memory
 room : (c : tie.After-part-start) →
-    let size = c .before .before .before .before .args .b .n * 16 in
+    let size = c .before .before .before .args .n * 16 in
     c .part-start .result + size ≤ 4 * size
-room c = part-within _ _ (c .before .before .before .before .pre .0) (c .part-start .ensures)
-
-channel-requires : tie.Need-channel-requires
-channel-requires c κs = search needs
+room c = part-within _ _ (c .before .before .before .pre .0) (c .part-start .ensures)
 
 part-start-requires : tie.Need-part-start-requires
 part-start-requires c κs = search needs
-
-cast-e : tie.Need-cast-e
-cast-e c = search needs
 
 mul-e : tie.Need-mul-e
 mul-e c = search needs
@@ -48,22 +41,17 @@ same-length : tie.Need-same-length
 same-length c = search needs
 
 returns : tie.Need-returns
-unfolding ticksChannel
 returns c =
     let w = c .before .before in
-    let p = w .before .before .before in
     let e = w .ticks .ensures in
-    let x = p .before .channel .ensures in
-    let start = p .part-start .ensures in
-    (simp (e .0, x, add-sub-cancel-left, start), simp (e .1, x, add-sub-cancel-left, start), simp (e .2, x, add-sub-cancel-left, start))
+    let start = w .before .before .before .part-start .ensures in
+    (simp (e .0, add-sub-cancel-left, start), simp (e .1, add-sub-cancel-left, start), simp (e .2, add-sub-cancel-left, start))
 
 pub ticks-channel-spec : {M : Type 1} → statement M
 ticks-channel-spec =
     tie.close
     (tie.spec
-    channel-requires
     part-start-requires
-    cast-e
     mul-e
     add-e
     mul-ticks

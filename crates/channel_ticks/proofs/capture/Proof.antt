@@ -6,30 +6,27 @@ use Rattle.channel_ticks.proofs.Captures.{set-past}
 use Rattle.channel_ticks.proofs.capture.Statement.{statement}
 use Rattle.channel_ticks.proofs.capture.Tie as tie
 
-cast-encode : tie.Need-cast-encode
-cast-encode c = search needs
+setpoint-frame-requires : tie.Need-setpoint-frame-requires
+setpoint-frame-requires c κs = search needs
 
-encode-requires : tie.Need-encode-requires
-encode-requires c κs = search needs
+mul-captured : tie.Need-mul-captured
+mul-captured c = search needs
 
-mul-line : tie.Need-mul-line
-mul-line c = search needs
-
-slice-write-line : tie.Need-slice-write-line
-slice-write-line c = search needs
+slice-write-captured : tie.Need-slice-write-captured
+slice-write-captured c = search needs
 
 same-length : tie.Need-same-length
 same-length c = search needs
 
 returns : tie.Need-returns
-returns c = simp (c .encode .ensures)
+returns c = simp (c .setpoint-frame .ensures)
 
 returns-2 : tie.Need-returns-2
 returns-2 c =
     let a = c .before .before .args in
-    sym (set-past (now (a .line)) (a .at) _ (c .if1 .left))
+    sym (set-past (now (a .captured)) (a .at) _ (c .if1 .left))
 
 pub capture-spec : {M : Type 1} → statement M
 capture-spec =
     tie.close
-    (tie.spec cast-encode encode-requires mul-line slice-write-line same-length returns returns-2)
+    (tie.spec setpoint-frame-requires mul-captured slice-write-captured same-length returns returns-2)

@@ -10,11 +10,11 @@ use Rattle.channel_ticks.proofs.ticks.Statement.{statement}
 use Rattle.channel_ticks.proofs.ticks.Tie as tie
 
 abbrev Inv-loop : tie.InvT-loop
-Inv-loop c setpoints n user count line₀ id at second period x₀ k₀ line x k =
-    (k ≤ count) × (length line ≡ length line₀) × Held setpoints n user c line₀ k (x .status) (x .sequencer) (x .frames) line
+Inv-loop c setpoints n user count captured₀ id at second period x₀ k₀ captured x k =
+    (k ≤ count) × (length captured ≡ length captured₀) × Held setpoints n user c captured₀ k (x .status) (x .sequencer) (x .frames) captured
 
 abbrev μ-loop : tie.MeasureT-loop
-μ-loop c setpoints n user count line₀ id at second period x₀ k₀ line x k = count - k
+μ-loop c setpoints n user count captured₀ id at second period x₀ k₀ captured x k = count - k
 
 -- the call's arguments and their ranges
 abbrev begun : tie.At-loop Inv-loop μ-loop → tie.Start Inv-loop μ-loop
@@ -27,8 +27,8 @@ turn c = c .before .before .before .before .before
 skipped : (c : tie.After-skip Inv-loop μ-loop) →
     let a = begun (turn c) .args in
     let x = c .skip .result in
-    Held (now (a .setpoints)) (a .n) (a .user) (a .c) (now (a .line)) (turn c .loop .k + c .before .least .result) (x .status) (x .sequencer) (x .frames)
-    (turn c .loop .line)
+    Held (now (a .setpoints)) (a .n) (a .user) (a .c) (now (a .captured)) (turn c .loop .k + c .before .least .result) (x .status) (x .sequencer) (x .frames)
+    (turn c .loop .captured)
 skipped c =
     held-quiet _ _ _ _ _ _ _ (turn c .loop .inv .2)
     (omega (arith, c .before .least .ensures, c .before .before .quiet-ticks .ensures))
@@ -133,7 +133,7 @@ returns c =
     let l = c .before .before in
     let e : l .loop .k ≡ begun l .args .count = omega (arith, c .before .loop-test .left, l .loop .inv .0) in
     let x = rw e at (l .loop .inv .2) in
-    (c .finish .ensures .0 ∙ sym (x .channel-is), c .finish .ensures .1 ∙ sym (x .frames-are), sym (x .line-is))
+    (c .finish .ensures .0 ∙ sym (x .channel-is), c .finish .ensures .1 ∙ sym (x .frames-are), sym (x .captured-is))
 
 pub ticks-spec : {M : Type 1} → statement M
 ticks-spec =

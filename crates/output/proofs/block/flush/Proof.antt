@@ -1,5 +1,6 @@
 -- `block::flush` meets its contract, by the count that each way out leaves. Assumes nothing.
 use mathlib.Core.Path.{refl}
+use mathlib.Core.Bool.{true}
 use native.Mathlib.Omega.{arith}
 use borrow.Author.Needs.{needs}
 use Rattle.output.proofs.Blocks.{flushed}
@@ -21,7 +22,7 @@ returns c =
     rw (c .settle .ensures) (flushed (at .before .count .ensures) (at .if1 .taken) (c .before .before .write .result))
 
 returns-2 : tie.Need-returns-2
-returns-2 c = record { handed = λ h. absurd (omega (arith, c .before .count .ensures .count)); closed = λ h. refl }
+returns-2 c = record { wentWell = true; settles = λ h. absurd (omega (arith, c .before .count .ensures .count)); closed = λ h. refl }
 
 pub flush-spec : {M : Type 1} → statement M
 flush-spec = tie.close (tie.spec count-requires write-requires settle-requires returns returns-2)

@@ -3,7 +3,7 @@ use mathlib.Core.Path.{refl, sym, _∙_}
 use mathlib.Core.Logic.{inl, inr}
 use native.Mathlib.Omega.{arith}
 use borrow.Author.Needs.{needs}
-use Rattle.output.proofs.Blocks.{full-gathered}
+use Rattle.output.proofs.Blocks.{handed, full-gathered}
 use Rattle.output.proofs.block.make_room.Statement.{statement}
 use Rattle.output.proofs.block.make_room.Tie as tie
 
@@ -17,7 +17,8 @@ returns : tie.Need-returns
 returns c =
     let full = c .before .before .if1 .taken in
     let known = c .before .before .before .count .ensures in
-    inl (sym (known .count) ∙ full, full-gathered known full, c .flush .ensures .handed (omega (arith, known .count)))
+    let flushed = c .flush .ensures in
+    inl (sym (known .count) ∙ full, full-gathered known full, rw (flushed .settles (omega (arith, known .count))) (handed _ (known .whole) (flushed .wentWell)))
 
 returns-2 : tie.Need-returns-2
 returns-2 c = inr (λ e. c .if1 .left (c .before .count .ensures .count ∙ e), refl)

@@ -1,14 +1,14 @@
--- `lines` is safe and ends: the measure is the ticks that are left. Assumes nothing.
+-- `by_tick` is safe and ends: the measure is the ticks that are left. Assumes nothing.
 use Prim.Native.Nat.{_-_}
 use borrow.Author.Needs.{needs}
-use Rattle.printed_calls.proofs.lines.Statement.{statement}
-use Rattle.printed_calls.proofs.lines.Tie as tie
+use Rattle.printed_ticks.proofs.by_tick.Statement.{statement}
+use Rattle.printed_ticks.proofs.by_tick.Tie as tie
 
 abbrev Inv-loop : tie.InvT-loop
-Inv-loop block₀ before one two three four k₀ block k = Unit {0}
+Inv-loop block₀ before count one two three four k₀ block k = Unit {0}
 
 abbrev μ-loop : tie.MeasureT-loop
-μ-loop block₀ before one two three four k₀ block k = 1024 - k
+μ-loop block₀ before count one two three four k₀ block k = count - k
 
 loop-holds : tie.Need-loop-holds Inv-loop μ-loop
 loop-holds c = search needs
@@ -67,8 +67,8 @@ loop-again c = search needs
 returns : tie.Need-returns Inv-loop μ-loop
 returns c = search needs
 
-pub lines-spec : {M : Type 1} → statement M
-lines-spec =
+pub by-tick-spec : {M : Type 1} → statement M
+by-tick-spec =
     tie.close
     (tie.spec
     Inv-loop

@@ -1,8 +1,8 @@
 -- `each_tick` is safe and ends: the measure is the ticks that are left. Assumes nothing.
 use Prim.Native.Nat.{_-_, _≤_}
 use borrow.Author.Needs.{needs}
-use Rattle.printed_calls.proofs.each_tick.Statement.{statement}
-use Rattle.printed_calls.proofs.each_tick.Tie as tie
+use Rattle.printed_ticks.proofs.each_tick.Statement.{statement}
+use Rattle.printed_ticks.proofs.each_tick.Tie as tie
 
 abbrev Inv-loop : tie.InvT-loop
 Inv-loop block₀ setpoints count board₀ before₀ block board before = before ≤ count
@@ -13,20 +13,23 @@ abbrev μ-loop : tie.MeasureT-loop
 loop-holds : tie.Need-loop-holds Inv-loop μ-loop
 loop-holds c = search needs
 
+sub-quiet-of : tie.Need-sub-quiet-of Inv-loop μ-loop
+sub-quiet-of c = search needs
+
+quiet-of-requires : tie.Need-quiet-of-requires Inv-loop μ-loop
+quiet-of-requires c κs = search needs
+
 sub-at-once : tie.Need-sub-at-once Inv-loop μ-loop
 sub-at-once c = search needs
 
 at-once-requires : tie.Need-at-once-requires Inv-loop μ-loop
 at-once-requires c κs = search needs
 
-ticks-requires : tie.Need-ticks-requires Inv-loop μ-loop
-ticks-requires c κs = search needs
-
-is-sent-requires : tie.Need-is-sent-requires Inv-loop μ-loop
-is-sent-requires c κs = search needs
-
 frames-requires : tie.Need-frames-requires Inv-loop μ-loop
-frames-requires c κs = search needs
+frames-requires c κs = c .before .before .at-once .ensures .2 (c .before .if1 .taken)
+
+after-requires : tie.Need-after-requires Inv-loop μ-loop
+after-requires c κs = search needs
 
 add-before : tie.Need-add-before Inv-loop μ-loop
 add-before c = search needs
@@ -47,11 +50,12 @@ each-tick-spec =
     Inv-loop
     μ-loop
     loop-holds
+    sub-quiet-of
+    quiet-of-requires
     sub-at-once
     at-once-requires
-    ticks-requires
-    is-sent-requires
     frames-requires
+    after-requires
     add-before
     loop-less
     loop-again
