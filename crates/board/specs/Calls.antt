@@ -183,16 +183,12 @@ retiredAnswer b number first second =
 -- the part that the call itself gives: "the empty part when refused" (`retired-part` of proofs/RetiredPart.antt)
 abbrev pub partOf : Answer → List ℕ
 partOf (ans.refused k) = []
-partOf ans.done = []
 partOf (ans.value v) = []
-partOf (ans.bit t) = []
 partOf (ans.frame f) = []
-partOf ans.none = []
 partOf ans.kept = []
 partOf ans.lost = []
-partOf ans.unsolicited = []
 partOf (ans.part s) = s
-partOf (ans.partLength k) = []
+partOf (ans.other r) = []
 
 unfoldable pub retiredLength : Board → ℕ → List ℕ → List ℕ → Answer
 retiredLength b number first second =

@@ -20,6 +20,12 @@ use Rattle.channel_core.specs.State.{opened}
 use Rattle.channel_core.specs.Behaviour.{userChanged, eventOf, eventWords, tickOf, tickAnswer, replyAnswer, replyOf, replyWords}
 use Rattle.channel.specs.Calls.{unless, registerRefusal, registerEffect, registerWords, readEffect, readValue, outside, setpointRefusal, setpointWords, armedOf, disarmedOf, retiredRefusal, mainBit, mainTaken}
 
+-- the calls that name the channel and change nothing. One more is a case here, and its refusal and its answer (`queryRefusal`, `queryAnswer`).
+pub data Query : Type 0 where
+  -- retired readbacks, and what document 01 calls its twin
+  retired : Query
+  retiredLength : Query
+
 -- the calls that name the channel, then the shared ones. `lent`, `one`, `two` are the lengths of what the call is lent.
 pub data ChannelCall : Type 0 where
   writeRegister : (lent offset value : ℕ) → ChannelCall
@@ -28,8 +34,7 @@ pub data ChannelCall : Type 0 where
   arm : ChannelCall
   disarm : ChannelCall
   reply : (lent frame : ℕ) → ChannelCall
-  retired : (one two : ℕ) → ChannelCall
-  retiredLength : (one two : ℕ) → ChannelCall
+  query : (which : Query) (one two : ℕ) → ChannelCall
   tick : (lent : ℕ) → ChannelCall
   event : (lent code : ℕ) → ChannelCall
   changeUser : (user : ℕ) → ChannelCall
@@ -82,6 +87,10 @@ framingRefusal (frame.fields id word aux crc) = 0
 abbrev pub userRefusal : ℕ → ℕ
 userRefusal user = cond (outside 1 8 user) (numberOf refusal.OutOfRange) 0
 
+abbrev pub queryRefusal : OneChannel → Query → (one two : ℕ) → ℕ
+queryRefusal o retired one two = retiredRefusal (o .m) one two
+queryRefusal o retiredLength one two = retiredRefusal (o .m) one two
+
 unfoldable pub refusalOf : OneChannel → ChannelCall → ℕ
 refusalOf o (writeRegister lent offset value) = then (lengthRefusal lent (o .m * 8)) (registerRefusal offset value)
 refusalOf o (readRegister offset) = readRefusal (channelAccess offset)
@@ -90,8 +99,7 @@ refusalOf o (writeSetpoint lent user buffer index word) =
 refusalOf o arm = 0
 refusalOf o disarm = 0
 refusalOf o (reply lent f) = then (lengthRefusal lent (o .m * 8)) (framingRefusal (read f))
-refusalOf o (retired one two) = retiredRefusal (o .m) one two
-refusalOf o (retiredLength one two) = retiredRefusal (o .m) one two
+refusalOf o (query which one two) = queryRefusal o which one two
 refusalOf o (tick lent) = lengthRefusal lent (o .n * 64)
 refusalOf o (event lent code) = lengthRefusal lent (o .m * 8)
 refusalOf o (changeUser user) = userRefusal user
@@ -118,8 +126,7 @@ effect o arm = withChannel o (armedOf (o .channel))
 effect o disarm = withChannel o (disarmedOf (o .channel))
 effect o (reply lent f) =
     withReadbacks (withChannel o (replyOf (o .channel) (o .m) f)) (replyWords (o .channel) (o .readbacks) (o .m) (o .user) f)
-effect o (retired one two) = o
-effect o (retiredLength one two) = o
+effect o (query which one two) = o
 effect o (tick lent) = withChannel o (tickOf (o .channel) (o .setpoints) (o .n) (o .user))
 effect o (event lent code) =
     withReadbacks (withChannel o (eventOf (o .channel) (o .user) code)) (eventWords (o .channel) (o .readbacks) (o .m) code)
@@ -145,6 +152,10 @@ abbrev pub mainAnswer : Channel → ℕ → Answer
 mainAnswer c offset =
     cond (eqb offset 0x28) (ans.bit (mainBit c false)) (cond (eqb offset 0x2a) (ans.bit (mainBit c true)) ans.done)
 
+abbrev pub queryAnswer : OneChannel → Query → Answer
+queryAnswer o retired = ans.part (retiredOf o)
+queryAnswer o retiredLength = ans.partLength (length (retiredOf o))
+
 unfoldable pub answer : OneChannel → ChannelCall → Answer
 answer o (writeRegister lent offset value) = ans.done
 answer o (readRegister offset) = ans.value (readValue (o .channel) offset)
@@ -152,8 +163,7 @@ answer o (writeSetpoint lent user buffer index word) = ans.done
 answer o arm = ans.done
 answer o disarm = ans.done
 answer o (reply lent f) = replyAnswer (o .channel) (o .m) f
-answer o (retired one two) = ans.part (retiredOf o)
-answer o (retiredLength one two) = ans.partLength (length (retiredOf o))
+answer o (query which one two) = queryAnswer o which
 answer o (tick lent) = tickAnswer (o .channel) (o .setpoints) (o .n) (o .user)
 answer o (event lent code) = ans.done
 answer o (changeUser user) = ans.done

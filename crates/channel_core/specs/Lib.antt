@@ -1,3 +1,4 @@
+pub mod Results
 pub mod Answers
 pub mod State
 pub mod Behaviour

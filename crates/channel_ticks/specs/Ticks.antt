@@ -26,16 +26,12 @@ framesIn c s n user (suc k) = framesIn c s n user k + cond (isFrame (answerAfter
 -- a list with the frame of an answer at one place; as it was where there is none, or no such place
 abbrev pub withFrame : Answer → ℕ → List ℕ → List ℕ
 withFrame (ans.refused k) at l = l
-withFrame ans.done at l = l
 withFrame (ans.value v) at l = l
-withFrame (ans.bit b) at l = l
 withFrame (ans.frame f) at l = set l at f
-withFrame ans.none at l = l
 withFrame ans.kept at l = l
 withFrame ans.lost at l = l
-withFrame ans.unsolicited at l = l
 withFrame (ans.part s) at l = l
-withFrame (ans.partLength k) at l = l
+withFrame (ans.other r) at l = l
 
 -- a list with the frames of k ticks, each at the place of its tick, the first tick's at 0
 unfoldable pub framesAt : Channel → List ℕ → ℕ → ℕ → ℕ → List ℕ → List ℕ

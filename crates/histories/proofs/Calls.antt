@@ -14,11 +14,10 @@ use Rattle.channel_core.specs.Answers.{Answer}
 use Rattle.channel_core.specs.Answers as ans
 use Rattle.channel_core.specs.Behaviour.{dueOf, tickOf, tickAnswer, userChanged}
 use Rattle.channel.specs.Calls.{registerEffect, readEffect, mainTaken, armedOf, disarmedOf}
-use Rattle.channel.specs.OneChannel.{ChannelCall, OneChannel, effect, answer, transition, response, mainRead, mainAnswer, userChange}
+use Rattle.channel.specs.OneChannel.{Query, ChannelCall, OneChannel, queryAnswer, effect, answer, transition, response, mainRead, mainAnswer, userChange}
 use Rattle.channel.specs.OneChannel as call
-use Rattle.channel.specs.History.{entry, asksGroupEnd, asksReset, endsGroup, resets}
+use Rattle.histories.specs.History.{entry, asks, endsGroup, resets, stops}
 use Rattle.channel.proofs.Cases.{either}
-use Rattle.histories.specs.Windows.{asksIdle, stops}
 use Rattle.histories.proofs.Keeps.{keeps-armed, keeps-event, keeps-command}
 use Rattle.histories.proofs.Cases.{by-offset}
 use Rattle.histories.proofs.Refusing.{by-refusal}
@@ -70,6 +69,11 @@ main-plain c offset = go (eqb offset 0x28) (eqb offset 0x2a)
     go false true = (refl, refl)
     go false false = (refl, refl)
 
+-- what answers a call that changes nothing is neither a frame nor a receipt
+query-plain : (o : OneChannel) (which : Query) → Plain (queryAnswer o which)
+query-plain o call.retired = (refl, refl)
+query-plain o call.retiredLength = (refl, refl)
+
 user-steps : (o : OneChannel) (user : ℕ) → Steps (o .n) (o .channel .sequencer) ans.done false false (not (eqb user (o .user))) (userChange o user .channel .sequencer)
 unfolding userChanged idled
 user-steps o user = go (eqb user (o .user))
@@ -91,7 +95,7 @@ period-some clock = go (eqb clock 0) (eqb clock 1) (eqb clock 2)
 
 -- what a call does that is not refused
 effect-steps : (o : OneChannel) (k : ChannelCall)
-    → Steps (o .n) (o .channel .sequencer) (answer o k) (asksGroupEnd o k) (asksReset k) (asksIdle o k) (effect o k .channel .sequencer)
+    → Steps (o .n) (o .channel .sequencer) (answer o k) (asks o k .groupEnd) (asks o k .reset) (asks o k .idle) (effect o k .channel .sequencer)
 unfolding effect answer armedOf disarmedOf disarmed idled tickOf tickAnswer
 effect-steps o (call.writeRegister lent offset value) = register-steps (o .n) (o .channel) offset value
 effect-steps o (call.readRegister offset) = same-steps (o .n) (o .channel) _ _ (refl, refl) (read-sequencer (o .channel) offset)
@@ -99,8 +103,7 @@ effect-steps o (call.writeSetpoint lent user buffer index word) = same-steps (o 
 effect-steps o call.arm = kept-steps (o .n) (o .channel) _ _ (refl, refl) (keeps-armed (o .channel .sequencer))
 effect-steps o call.disarm = idle-steps (o .n) (o .channel .sequencer) false false
 effect-steps o (call.reply lent f) = reply-steps (o .n) (o .channel) (o .m) f
-effect-steps o (call.retired one two) = same-steps (o .n) (o .channel) _ _ (refl, refl) refl
-effect-steps o (call.retiredLength one two) = same-steps (o .n) (o .channel) _ _ (refl, refl) refl
+effect-steps o (call.query which one two) = same-steps (o .n) (o .channel) _ _ (query-plain o which) refl
 effect-steps o (call.tick lent) =
     tick-steps (o .n) (o .channel .sequencer) (o .channel .registers .id) (dueOf (o .channel) (o .setpoints) (o .n) (o .user))
     (periodOf (o .channel .registers .clock)) (period-some (o .channel .registers .clock))

@@ -10,7 +10,7 @@ use Rattle.sequencer.proofs.Moves.{counted-with}
 use Rattle.channel_core.specs.State as state
 use Rattle.channel.specs.OneChannel.{ChannelCall, OneChannel, oneChannel, transition, transitions}
 use Rattle.channel_core.specs.Answers.{isFrame}
-use Rattle.channel.specs.History.{entry, history, endsGroup, resets, framesSince}
+use Rattle.histories.specs.History.{entry, history, endsGroup, resets, framesSince}
 use Rattle.histories.specs.Counting.{mostCounted, CountsFrames}
 use Rattle.histories.proofs.Calls.{steps}
 

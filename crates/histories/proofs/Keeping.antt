@@ -25,12 +25,12 @@ use Rattle.channel_core.specs.Answers.{Answer, part, partLength}
 use Rattle.channel_core.specs.Answers as ans
 use Rattle.channel_core.specs.Behaviour.{userChanged, groupEnded, groupWords, endedIf, endedWords, eventWords, commandWords, tickOf, dispositionNow, receiptAnswer, receivedChannel, receivedWords, replyAnswerAs, replyAs, replyWordsAs, replyAnswer, replyOf, replyWords}
 use Rattle.channel.specs.Calls.{registerEffect, registerWords, armedOf, disarmedOf}
-use Rattle.channel.specs.OneChannel.{ChannelCall, OneChannel, effect, answer, transition, response, transitions, mainAnswer, withUser, withChannel, userChange, oneChannel, refusalOf, retiredOf}
+use Rattle.channel.specs.OneChannel.{ChannelCall, OneChannel, effect, answer, transition, response, transitions, queryAnswer, mainAnswer, withUser, withChannel, userChange, oneChannel, refusalOf, retiredOf}
 use Rattle.channel.specs.OneChannel as call
-use Rattle.channel.specs.History.{entry, history, asksGroupEnd, asksReset}
+use Rattle.histories.specs.History.{entry, history, replyWord, asks}
 use Rattle.channel.proofs.Cases.{either}
 use Rattle.histories.specs.Ranges.{ChannelInRange}
-use Rattle.histories.specs.Keeping.{isKept, replyWord, callWord, Kept, nothingKept, switched, keptWith, keptAfter, keptSince, CountsKept, RetiresKept, keptOver}
+use Rattle.histories.specs.Keeping.{isKept, Kept, nothingKept, switched, keptWith, keptAfter, keptSince, CountsKept, RetiresKept, keptOver}
 use Rattle.histories.proofs.Cases.{by-offset}
 use Rattle.histories.proofs.Refusing.{by-refusal, accepted-response}
 use Rattle.histories.proofs.Depths.{depths-kept}
@@ -152,7 +152,7 @@ module _ (g : Kept) where
       go false = same o h
 
   effect-holds : (o : OneChannel) (k : ChannelCall) → ChannelInRange (o .m) (o .channel) → HoldsIn o g
-      → HoldsIn (effect o k) (keptBy g (answer o k) (asksGroupEnd o k) (asksReset k) (callWord o k))
+      → HoldsIn (effect o k) (keptBy g (answer o k) (asks o k .groupEnd) (asks o k .reset) (asks o k .word))
   unfolding effect answer armedOf disarmedOf tickOf eventWords
   effect-holds o (call.writeRegister lent offset value) r h = register-holds o offset value r h
   effect-holds o (call.readRegister offset) r h = plain o false _ (leaves-read (o .channel) offset) h
@@ -160,8 +160,7 @@ module _ (g : Kept) where
   effect-holds o call.arm r h = same o h
   effect-holds o call.disarm r h = same o h
   effect-holds o (call.reply lent f) r h = reply-holds o f r h
-  effect-holds o (call.retired one two) r h = same o h
-  effect-holds o (call.retiredLength one two) r h = same o h
+  effect-holds o (call.query which one two) r h = plain o (isKept (queryAnswer o which)) (o .channel) (leaves-all (o .channel)) h
   effect-holds o (call.tick lent) r h = plain o (isKept (answer o (call.tick lent))) (o .channel) (leaves-all (o .channel)) h
   effect-holds o (call.event lent code) r h =
       leaves-holds (o .m) _ _ (leaves-event (o .channel) (o .user) code)
@@ -174,7 +173,7 @@ module _ (g : Kept) where
   holds-step : (o : OneChannel) (k : ChannelCall) → ChannelInRange (o .m) (o .channel) → HoldsIn o g
       → HoldsIn (transition o k) (keptAfter g (entry o k))
   holds-step o k r h =
-      by-refusal (λ (x : OneChannel) (a : Answer) (ends again stops : Bool). HoldsIn x (keptBy g a ends again (callWord o k))) o k
+      by-refusal (λ (x : OneChannel) (a : Answer) (ends again stops : Bool). HoldsIn x (keptBy g a ends again (asks o k .word))) o k
       (λ e. effect-holds o k r h) (same o h)
 
 -- ---- Lists of calls
@@ -196,15 +195,15 @@ words-long o [] = refl
 words-long o (k ∷ ks) = words-long (transition o k) ks ∙ stays o k .readback-words
 
 retires : (o : OneChannel) (m : ℕ) (g : Kept) → o .m ≡ m → length (o .readbacks) ≡ m * 2 → ChannelInRange (o .m) (o .channel) → HoldsIn o g
-    → (response o (call.retired m m) ≡ part (g .retired)) × (response o (call.retiredLength m m) ≡ partLength (length (g .retired)))
+    → (response o (call.query call.retired m m) ≡ part (g .retired)) × (response o (call.query call.retiredLength m m) ≡ partLength (length (g .retired)))
 unfolding answer retiredOf refusalOf
 retires o m g d l r h =
     let fits : eqb m (o .m) ≡ true = eq-eqb m (o .m) (sym d) in
     let e : retiredOf o ≡ g .retired =
     front-retired (secondActive (o .channel .registers) readbackPlace) (o .m) (o .channel .readbacks .retired) (o .readbacks) (r .readbacks .retired)
     ∙ h .inactive (l ∙ ap (λ (x : ℕ). x * 2) (sym d)) in (
-      accepted-response o (call.retired m m) (rw fits) ∙ ap part e,
-      accepted-response o (call.retiredLength m m) (rw fits) ∙ ap (λ (t : List ℕ). partLength (length t)) e,
+      accepted-response o (call.query call.retired m m) (rw fits) ∙ ap part e,
+      accepted-response o (call.query call.retiredLength m m) (rw fits) ∙ ap (λ (t : List ℕ). partLength (length t)) e,
     )
 
 pub retires-kept : RetiresKept

@@ -122,8 +122,7 @@ effect-stays o call.arm e = channel-stays o _ (with-sequencer (o .m) (o .channel
 effect-stays o call.disarm e = channel-stays o _ (with-sequencer (o .m) (o .channel) _)
 effect-stays o (call.reply lent f) e =
     readbacks-stay o _ _ (reply-range (o .m) (o .channel) f) (reply-length (o .channel) (o .readbacks) (o .m) (o .user) f)
-effect-stays o (call.retired one two) e = all-stays o
-effect-stays o (call.retiredLength one two) e = all-stays o
+effect-stays o (call.query which one two) e = all-stays o
 effect-stays o (call.tick lent) e = channel-stays o _ (tick-range (o .m) (o .channel) (o .setpoints) (o .n) (o .user))
 effect-stays o (call.event lent code) e =
     readbacks-stay o _ _ (event-range (o .m) (o .channel) (o .user) code) (event-length (o .channel) (o .readbacks) (o .m) code)

@@ -4,8 +4,7 @@ use mathlib.Core.Bool.{Bool, true, false, cond}
 use lib.Dec.{eqb}
 use Rattle.channel_core.specs.Answers.{Answer, refused}
 use Rattle.channel.specs.OneChannel.{ChannelCall, OneChannel, refusalOf, effect, answer, transition, response}
-use Rattle.channel.specs.History.{entry, asksGroupEnd, asksReset, endsGroup, resets}
-use Rattle.histories.specs.Windows.{asksIdle, stops}
+use Rattle.histories.specs.History.{entry, asks, endsGroup, resets, stops}
 use Rattle.histories.specs.Refusing.{RefusedChangesNothing}
 
 pub refused-nothing : RefusedChangesNothing
@@ -15,7 +14,7 @@ refused-nothing o k h =
 
 -- a call that is not refused has its effect and its answer; a refused one neither moves, ends a group, resets nor idles
 pub by-refusal : (P : OneChannel → Answer → Bool → Bool → Bool → Type 0) (o : OneChannel) (k : ChannelCall)
-    → (eqb (refusalOf o k) 0 ≡ true → P (effect o k) (answer o k) (asksGroupEnd o k) (asksReset k) (asksIdle o k))
+    → (eqb (refusalOf o k) 0 ≡ true → P (effect o k) (answer o k) (asks o k .groupEnd) (asks o k .reset) (asks o k .idle))
     → P o (refused (refusalOf o k)) false false false
     → P (transition o k) (response o k) (endsGroup (entry o k)) (resets (entry o k)) (stops (entry o k))
 unfolding transition response
@@ -23,8 +22,8 @@ by-refusal P o k h g = go (eqb (refusalOf o k) 0) refl
   where
     go : (b : Bool) → eqb (refusalOf o k) 0 ≡ b
         → P (cond b (effect o k) o) (cond b (answer o k) (refused (refusalOf o k)))
-        (cond (cond b false true) false (asksGroupEnd o k)) (cond (cond b false true) false (asksReset k))
-        (cond (cond b false true) false (asksIdle o k))
+        (cond (cond b false true) false (asks o k .groupEnd)) (cond (cond b false true) false (asks o k .reset))
+        (cond (cond b false true) false (asks o k .idle))
     go true e = h e
     go false e = g
 

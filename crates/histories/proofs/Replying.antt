@@ -14,7 +14,7 @@ use Rattle.channel_core.specs.Answers.{kept, lost, unsolicited}
 use Rattle.channel_core.specs.Behaviour.{dispositionNow, receiptAnswer, receivedChannel, receivedWords, replyAnswer, replyOf, replyWords}
 use Rattle.channel_core.specs.State as state
 use Rattle.channel.specs.OneChannel.{ChannelCall, OneChannel, oneChannel, refusalOf, effect, answer, transition, response, transitions, reply}
-use Rattle.channel.specs.History.{history}
+use Rattle.histories.specs.History.{history}
 use Rattle.histories.specs.Windows.{Window, closed, windowSince}
 use Rattle.histories.specs.Ranges.{Quiet}
 use Rattle.histories.specs.Keeping.{Kept, keptOver}

@@ -15,7 +15,7 @@ use Rattle.channel_core.specs.Behaviour.{endedIf, groupEnded, eventOf, commande
 use Rattle.channel.specs.Calls.{registerEffect, readValue}
 use Rattle.channel.specs.OneChannel.{ChannelCall, OneChannel, oneChannel, refusalOf, effect, answer, transition, response, transitions, readRegister}
 use Rattle.channel.specs.OneChannel as call
-use Rattle.channel.specs.History.{entry, history, asksGroupEnd, endsGroup, framesSince}
+use Rattle.histories.specs.History.{entry, history, asks, endsGroup, framesSince}
 use Rattle.channel.proofs.Cases.{clash}
 use Rattle.histories.specs.Counting.{mostCounted, ShowsFrames}
 use Rattle.histories.proofs.Counting.{counts-frames}
@@ -43,7 +43,7 @@ register-shown c offset word =
     (λ (x : ℕ). (eqb x 0x08 && bitAt word 2) ≡ true → registerEffect c x word .registers .shown ≡ c .sequencer .count)
     offset (λ e. clash e) (λ e. clash e) (λ e. command-shown c word e) (λ d e f g. clash (rw f at g))
 
-effect-shown : (o : OneChannel) (k : ChannelCall) → asksGroupEnd o k ≡ true
+effect-shown : (o : OneChannel) (k : ChannelCall) → asks o k .groupEnd ≡ true
     → effect o k .channel .registers .shown ≡ o .channel .sequencer .count
 unfolding effect
 effect-shown o (call.writeRegister lent offset word) e = register-shown (o .channel) offset word e
@@ -52,8 +52,7 @@ effect-shown o (call.writeSetpoint lent user buffer index word) e = clash e
 effect-shown o call.arm e = clash e
 effect-shown o call.disarm e = clash e
 effect-shown o (call.reply lent f) e = clash e
-effect-shown o (call.retired one two) e = clash e
-effect-shown o (call.retiredLength one two) e = clash e
+effect-shown o (call.query which one two) e = clash e
 effect-shown o (call.tick lent) e = clash e
 effect-shown o (call.event lent code) e = event-shown (o .channel) (o .user) code e
 effect-shown o (call.changeUser user) e = clash e

@@ -5,7 +5,7 @@ use mathlib.Core.List.{List, [], _∷_}
 use native.Mathlib.Omega.{arith}
 use Rattle.channel_core.specs.State as state
 use Rattle.channel.specs.OneChannel.{oneChannel, ChannelCall, OneChannel, transition, transitions}
-use Rattle.channel.specs.History.{entry, history}
+use Rattle.histories.specs.History.{entry, history}
 use Rattle.histories.specs.Windows.{Window, closed, windowAfter, windowSince}
 use Rattle.histories.specs.Ranges.{Quiet}
 use Rattle.histories.specs.Replying.{WindowHeld}

@@ -1,12 +1,12 @@
 -- Document 01, 'A channel's life': "The count takes every send, repeats too, and stays at FFFFFFh."
--- Stated over what calls answered: a send is a tick that answered a frame (`framesSince` in crate `channel`, specs/History).
+-- Stated over what calls answered: a send is a tick that answered a frame (`framesSince` in specs/History).
 use Prim.Native.Nat.{ℕ, _/_, _%_, min}
 use mathlib.Core.Path.{_≡_}
 use mathlib.Core.Bool.{true}
 use mathlib.Core.List.{List}
 use Rattle.channel_core.specs.Answers.{value}
 use Rattle.channel.specs.OneChannel.{ChannelCall, oneChannel, transition, response, transitions, readRegister}
-use Rattle.channel.specs.History.{entry, history, endsGroup, framesSince}
+use Rattle.histories.specs.History.{entry, history, endsGroup, framesSince}
 
 -- FFFFFFh
 abbrev pub mostCounted : ℕ

@@ -2,55 +2,28 @@
 -- Stated over what replies were answered: what is stored are the words of those answered kept, in the order they came.
 use Prim.Native.Nat.{ℕ, _*_}
 use mathlib.Core.Path.{_≡_}
-use mathlib.Core.Bool.{Bool, true, false, cond, not}
+use mathlib.Core.Bool.{Bool, true, false, cond}
 use mathlib.Core.List.{List, [], _∷_, _++_}
 use lib.ListN.{length}
-use Rattle.frame.specs.Frames.{Reading, read, crcRight}
-use Rattle.frame.specs.Frames as frame
-use Rattle.readback.specs.Storing.{storedWord}
 use Rattle.channel_core.specs.Answers.{Answer, part, partLength}
 use Rattle.channel_core.specs.Answers as ans
 use Rattle.channel.specs.OneChannel.{ChannelCall, OneChannel, oneChannel, response, transitions}
 use Rattle.channel.specs.OneChannel as call
-use Rattle.channel.specs.History.{Entry, history, endsGroup, resets}
+use Rattle.histories.specs.History.{Entry, history, asks, endsGroup, resets}
 
 -- a reply that was answered kept
 abbrev pub isKept : Answer → Bool
 isKept (ans.refused k) = false
-isKept ans.done = false
 isKept (ans.value v) = false
-isKept (ans.bit b) = false
 isKept (ans.frame f) = false
-isKept ans.none = false
 isKept ans.kept = true
 isKept ans.lost = false
-isKept ans.unsolicited = false
 isKept (ans.part s) = false
-isKept (ans.partLength k) = false
-
--- "Kept word: .. D31–D26 describe the last send": the word of a reply that comes at this state; there is none where it is refused 7
-abbrev pub replyWord : OneChannel → Reading → List ℕ
-replyWord o (frame.refused k) = []
-replyWord o (frame.fields id word aux crc) = storedWord (o .channel .sequencer .last) (o .user) (not (crcRight id word aux crc)) id word ∷ []
-
-abbrev pub callWord : OneChannel → ChannelCall → List ℕ
-callWord o (call.writeRegister lent offset value) = []
-callWord o (call.readRegister offset) = []
-callWord o (call.writeSetpoint lent user buffer index word) = []
-callWord o call.arm = []
-callWord o call.disarm = []
-callWord o (call.reply lent f) = replyWord o (read f)
-callWord o (call.retired one two) = []
-callWord o (call.retiredLength one two) = []
-callWord o (call.tick lent) = []
-callWord o (call.event lent code) = []
-callWord o (call.changeUser user) = []
-callWord o (call.writeMain lent offset value) = []
-callWord o (call.readMain offset) = []
+isKept (ans.other r) = false
 
 -- what a call stores: the word of a reply that was answered kept; one lost or unsolicited stores nothing
 abbrev pub storedBy : Entry → List ℕ
-storedBy e = cond (isKept (e .answer)) (callWord (e .before) (e .call)) []
+storedBy e = cond (isKept (e .answer)) (asks (e .before) (e .call) .word) []
 
 -- the words of the replies kept since the last Group End, reset or opening; and of those kept before that Group End, from the one before it,
 -- from a reset or from the opening on. With no Group End since a reset or the opening there are none of the latter.
@@ -94,6 +67,6 @@ CountsKept =
 abbrev pub RetiresKept : Type 0
 RetiresKept =
     (n m : ℕ) (setpoints readbacks : List ℕ) → length readbacks ≡ m * 2 → (ks : List ChannelCall)
-    → (response (transitions (oneChannel n m setpoints readbacks) ks) (call.retired m m) ≡ part (keptOver n m setpoints readbacks ks .retired))
-    × (response (transitions (oneChannel n m setpoints readbacks) ks) (call.retiredLength m m)
+    → (response (transitions (oneChannel n m setpoints readbacks) ks) (call.query call.retired m m) ≡ part (keptOver n m setpoints readbacks ks .retired))
+    × (response (transitions (oneChannel n m setpoints readbacks) ks) (call.query call.retiredLength m m)
     ≡ partLength (length (keptOver n m setpoints readbacks ks .retired)))

@@ -1,3 +1,4 @@
+pub mod History
 pub mod Refusing
 pub mod Counting
 pub mod Windows

@@ -13,7 +13,7 @@ use Rattle.sequencer.specs.declared.Sequencer.{Sequencer}
 use Rattle.readback.specs.Storing.{capacity, placeOf, storedWord}
 use Rattle.channel_core.specs.Answers.{kept, lost, unsolicited}
 use Rattle.channel.specs.OneChannel.{ChannelCall, OneChannel, oneChannel, transition, response, transitions, reply}
-use Rattle.channel.specs.History.{history}
+use Rattle.histories.specs.History.{history}
 use Rattle.histories.specs.Windows.{Window, closed, windowSince}
 use Rattle.histories.specs.Keeping.{Kept, keptOver}
 

@@ -1,33 +1,10 @@
 -- Document 01, 'A channel's life': "a setpoint was sent since idle, and fewer than six replies have followed the last such send".
 -- Stated over calls and what they answered: a send is a tick that answered a frame, and what idles a channel is a call.
 use Prim.Native.Nat.{ℕ, _+_}
-use mathlib.Core.Bool.{Bool, true, false, cond, not, _||_}
+use mathlib.Core.Bool.{Bool, true, false, cond, _||_}
 use mathlib.Core.List.{List, [], _∷_}
-use lib.Dec.{eqb}
 use Rattle.channel_core.specs.Answers.{isFrame, isReceived}
-use Rattle.channel.specs.OneChannel.{ChannelCall, OneChannel}
-use Rattle.channel.specs.OneChannel as call
-use Rattle.channel.specs.History.{Entry, isRefused, endsGroup, resets}
-
--- "A user change to another user idles every channel"; "Disarm idles"
-abbrev pub asksIdle : OneChannel → ChannelCall → Bool
-asksIdle o (call.writeRegister lent offset value) = false
-asksIdle o (call.readRegister offset) = false
-asksIdle o (call.writeSetpoint lent user buffer index word) = false
-asksIdle o call.arm = false
-asksIdle o call.disarm = true
-asksIdle o (call.reply lent f) = false
-asksIdle o (call.retired one two) = false
-asksIdle o (call.retiredLength one two) = false
-asksIdle o (call.tick lent) = false
-asksIdle o (call.event lent code) = false
-asksIdle o (call.changeUser user) = not (eqb user (o .user))
-asksIdle o (call.writeMain lent offset value) = false
-asksIdle o (call.readMain offset) = false
-
--- one of these that took place
-abbrev pub stops : Entry → Bool
-stops e = cond (isRefused e) false (asksIdle (e .before) (e .call))
+use Rattle.histories.specs.History.{Entry, endsGroup, resets, stops}
 
 -- it idles the channel, though its event or command may then start it again: a Group End, a reset ("its opening state"), or one of these
 abbrev pub idles : Entry → Bool

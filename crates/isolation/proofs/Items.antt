@@ -9,18 +9,18 @@ use lib.Dec.{eqb}
 use borrow.Author.Tests.{eqb-true, eqb-false}
 use Rattle.register_map.specs.Addresses.{Named, named, main, channel, nothing}
 use Rattle.channel_core.specs.Answers.{Answer, isRefusal}
-use Rattle.channel.specs.OneChannel.{ChannelCall, refusalOf, effect, transition, response, transitions, responses}
+use Rattle.channel.specs.OneChannel.{Query, ChannelCall, refusalOf, effect, transition, response, transitions, responses}
 use Rattle.channel.specs.OneChannel as to
 use Rattle.board.specs.Answers.{BoardAnswer}
 use Rattle.board.specs.Worlds.{World}
-use Rattle.isolation.specs.Calls.{Call, writeRegister, readRegister, writeSetpoint, arm, disarm, reply, retired, retiredLength, tick, event, changeUser, interruptLevel, Lent, first, second, Item, answer, after, refused, given, step, Fits}
+use Rattle.isolation.specs.Calls.{Call, writeRegister, readRegister, writeSetpoint, arm, disarm, reply, query, tick, event, changeUser, interruptLevel, Lent, first, second, Item, answer, after, refused, given, step, Fits}
 use Rattle.isolation.specs.Feeding.{only, feeds, answerFor, shared, sharedRead, observe, view}
 use Rattle.isolation.proofs.Parts.{Number}
 use Rattle.isolation.proofs.One.{still}
-use Rattle.isolation.proofs.Worlds.{Good, either, step-refused, step-given, plain}
-use Rattle.isolation.proofs.Views.{view-write, view-read, view-setpoint, view-armed, view-reply, view-retired, view-retiredLength, view-tick, view-event, view-user, view-write-main, view-read-main}
+use Rattle.isolation.proofs.Worlds.{Good, either, step-refused, step-given, plain, plain-query}
+use Rattle.isolation.proofs.Views.{view-write, view-read, view-setpoint, view-armed, view-reply, view-query, view-tick, view-event, view-user, view-write-main, view-read-main}
 use Rattle.isolation.proofs.Others.{other-write, other-read, other-setpoint, other-armed, other-reply, nothing-write, nothing-read}
-use Rattle.isolation.proofs.Observing.{answer-refused, shared-refused, sharedRead-refused, observe-write, observe-read, observe-setpoint, arm-done, observe-reply, observe-event, observe-user, observe-write-main, observe-read-main, observe-retired, observe-retiredLength, observe-tick}
+use Rattle.isolation.proofs.Observing.{answer-refused, shared-refused, sharedRead-refused, observe-write, observe-read, observe-setpoint, arm-done, observe-reply, observe-event, observe-user, observe-write-main, observe-read-main, observe-query, observe-tick}
 
 abbrev at : Call → Lent → Item
 at x l = record { call = x; lent = l }
@@ -156,21 +156,12 @@ module _ (w : World) (g : Good w) (c : ℕ) (h : Number c) (l : Lent) where
       (λ f. observe-reply w c h y l) (λ q. view-reply w g c h y ∙ at-length (λ (k : ℕ). to.reply k y) q)
       (λ d ne. other-reply w c h d ne y) d
 
-  item-retired : (d : ℕ) → Fits w (at (retired d) l) → Holds c w (at (retired d) l)
-  unfolding after
-  item-retired =
-      by-number w c l retired (to.retired (length (first l)) (length (second l))) (λ d. refl) (λ d s. refl)
-      (λ f. observe-retired w c h l (either w (at (retired c) l) f))
-      (λ q. view-retired w g c h c (length (first l)) (length (second l)))
-      (λ d ne. refl)
-
-  item-retiredLength : (d : ℕ) → Fits w (at (retiredLength d) l) → Holds c w (at (retiredLength d) l)
-  unfolding after
-  item-retiredLength =
-      by-number w c l retiredLength (to.retiredLength (length (first l)) (length (second l))) (λ d. refl) (λ d s. refl)
-      (λ f. observe-retiredLength w c h l (either w (at (retiredLength c) l) f))
-      (λ q. view-retiredLength w g c h c (length (first l)) (length (second l)))
-      (λ d ne. refl)
+  item-query : (d : ℕ) (q : Query) → Fits w (at (query d q) l) → Holds c w (at (query d q) l)
+  item-query d q =
+      by-number w c l (λ (d : ℕ). query d q) (to.query q (length (first l)) (length (second l))) (λ d. refl) (λ d s. refl)
+      (λ f. observe-query w c h q l (either w (at (query c q) l) f))
+      (λ r. view-query w g c h c q (length (first l)) (length (second l)))
+      (λ d ne. ap (view c) (plain-query w d q)) d
 
   -- ---- Shared calls
 
@@ -202,8 +193,7 @@ module _ (w : World) (g : Good w) (c : ℕ) (h : Number c) (l : Lent) where
   item (arm d) f = item-arm d f
   item (disarm d) f = item-disarm d f
   item (reply d y) f = item-reply d y f
-  item (retired d) f = item-retired d f
-  item (retiredLength d) f = item-retiredLength d f
+  item (query d q) f = item-query d q f
   item tick f = item-tick f
   item (event y) f = item-event y f
   item (changeUser u) f = item-user u f

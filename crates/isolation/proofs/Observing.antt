@@ -14,7 +14,7 @@ use Rattle.channel_core.specs.Answers.{Answer, isRefusal}
 use Rattle.channel_core.specs.Answers as ans
 use Rattle.channel.specs.Calls.{unless}
 use Rattle.channel.specs.Calls as chn
-use Rattle.channel.specs.OneChannel.{response, refusalOf, answer, retiredOf, userRefusal, mainAnswer}
+use Rattle.channel.specs.OneChannel.{Query, response, refusalOf, answer, retiredOf, userRefusal, mainAnswer}
 use Rattle.channel.specs.OneChannel as to
 use Rattle.channel.proofs.Cases.{clash, either}
 use Rattle.board_state.specs.State.{channelAt}
@@ -23,7 +23,7 @@ use Rattle.board.specs.Answers.{BoardAnswer, one, each, refuses}
 use Rattle.board.specs.Calls.{sizeMismatch, setpointsFit, readbacksFit, tickFrame}
 use Rattle.board.specs.Calls as calls
 use Rattle.board.specs.Worlds.{World}
-use Rattle.isolation.specs.Calls.{writeRegister, readRegister, writeSetpoint, reply, retired, retiredLength, tick, event, changeUser, Lent, first, second, refused, ownBuffers, given}
+use Rattle.isolation.specs.Calls.{writeRegister, readRegister, writeSetpoint, reply, query, tick, event, changeUser, Lent, first, second, refused, ownBuffers, given}
 use Rattle.isolation.specs.Calls as wld
 use Rattle.isolation.specs.Feeding.{answerFor, shared, sharedRead, view}
 use Rattle.isolation.proofs.Parts.{Number}
@@ -142,16 +142,11 @@ module _ (w : World) (c : ℕ) (h : Number c) where
       go true e (inr q) = rw (e, in-range c h, q)
       go false e f = rw e (rw e)
 
-  pub observe-retired : (l : Lent) → ((refused (w .board) (retired c) l ≡ true) ⊎ (l ≡ given w (retired c)))
-      → answerFor c (wld.answer (w .board) (retired c) l) ≡ response (view c w) (to.retired (length (first l)) (length (second l)))
-  unfolding wld.answer calls.retiredAnswer response refusalOf answer
-  observe-retired l f = retired-same ans.part (λ s. refl) l f
-
-  pub observe-retiredLength : (l : Lent) → ((refused (w .board) (retiredLength c) l ≡ true) ⊎ (l ≡ given w (retiredLength c)))
-      → answerFor c (wld.answer (w .board) (retiredLength c) l)
-      ≡ response (view c w) (to.retiredLength (length (first l)) (length (second l)))
-  unfolding wld.answer calls.retiredLength response refusalOf answer
-  observe-retiredLength l f = retired-same (λ s. ans.partLength (length s)) (λ s. refl) l f
+  pub observe-query : (q : Query) (l : Lent) → ((refused (w .board) (query c q) l ≡ true) ⊎ (l ≡ given w (query c q)))
+      → answerFor c (wld.answer (w .board) (query c q) l) ≡ response (view c w) (to.query q (length (first l)) (length (second l)))
+  unfolding wld.answer calls.retiredAnswer calls.retiredLength response refusalOf answer
+  observe-query to.retired l f = retired-same ans.part (λ s. refl) l f
+  observe-query to.retiredLength l f = retired-same (λ s. ans.partLength (length s)) (λ s. refl) l f
 
   pub observe-tick : Good w → (l : Lent) → ((refused (w .board) tick l ≡ true) ⊎ (l ≡ given w tick))
       → answerFor c (wld.answer (w .board) tick l) ≡ response (view c w) (to.tick (length (first l)))

@@ -17,7 +17,7 @@ use Rattle.channel_core.specs.Behaviour.{sendFrame, playedOf, replyAnswerAs, re
 use Rattle.channel_core.specs.Behaviour as core
 use Rattle.channel.specs.Calls.{unless, registerRefusal, setpointRefusal}
 use Rattle.channel.specs.Calls as chn
-use Rattle.channel.specs.OneChannel.{OneChannel, ChannelCall, withChannel, withSetpoints, withReadbacks, refusalOf, effect, answer, transition, response, transitions, responses, then, lengthRefusal, framingRefusal, mainAnswer}
+use Rattle.channel.specs.OneChannel.{OneChannel, Query, ChannelCall, withChannel, withSetpoints, withReadbacks, refusalOf, effect, answer, transition, response, transitions, responses, then, lengthRefusal, framingRefusal, mainAnswer}
 use Rattle.channel.specs.OneChannel as to
 use Rattle.channel.proofs.Cases.{clash, either}
 use Rattle.board.specs.Calls.{sizeMismatch}
@@ -49,8 +49,7 @@ module _ (o : OneChannel) where
   effect-still to.disarm h = clash h
   effect-still (to.reply lent f) h =
       ap₂ (withBoth o) (reply-still (o .channel) (o .m) f h) (reply-words (o .channel) (o .readbacks) (o .m) (o .user) f h)
-  effect-still (to.retired k j) h = refl
-  effect-still (to.retiredLength k j) h = refl
+  effect-still (to.query q k j) h = refl
   effect-still (to.tick lent) h =
       clash (sym (frame-none (o .channel .registers .id) (playedOf (o .channel) (o .setpoints) (o .n) (o .user) .transmission)) ∙ h)
   effect-still (to.event lent x) h = clash h
@@ -132,12 +131,9 @@ module _ (o : OneChannel) where
   transition-main k x v =
       either (λ (a : OneChannel). a ≡ o) (eqb (refusalOf o (to.writeMain k x v)) 0) refl refl
 
-  pub transition-retired : (k j : ℕ) → (transition o (to.retired k j) ≡ o) × (transition o (to.retiredLength k j) ≡ o)
+  pub transition-query : (q : Query) (k j : ℕ) → transition o (to.query q k j) ≡ o
   unfolding transition effect
-  transition-retired k j = (
-    either (λ (a : OneChannel). a ≡ o) (eqb (refusalOf o (to.retired k j)) 0) refl refl,
-    either (λ (a : OneChannel). a ≡ o) (eqb (refusalOf o (to.retiredLength k j)) 0) refl refl,
-  )
+  transition-query q k j = either (λ (a : OneChannel). a ≡ o) (eqb (refusalOf o (to.query q k j)) 0) refl refl
 
   -- ---- What it answers
 

@@ -21,15 +21,15 @@ use Rattle.board_state.specs.Parts.{own}
 use Rattle.board.specs.Calls.{noChannel, readbacksFit, writeBoardAt, readBoardAt}
 use Rattle.board.specs.Calls as calls
 use Rattle.board.specs.Worlds.{World}
-use Rattle.isolation.specs.Calls.{Call, writeRegister, readRegister, writeSetpoint, arm, disarm, reply, retired, retiredLength, tick, event, changeUser, interruptLevel, first, second, withBoard, after, wordsAfter, refused, given, step}
+use Rattle.isolation.specs.Calls.{Call, writeRegister, readRegister, writeSetpoint, arm, disarm, reply, query, tick, event, changeUser, interruptLevel, first, second, withBoard, after, wordsAfter, refused, given, step}
 use Rattle.isolation.specs.Calls as wld
-use Rattle.isolation.specs.Feeding.{only, namesAt, names, feedWrite, feedRead, feed, view}
+use Rattle.isolation.specs.Feeding.{only, writeScope, readScope, namesIn, names, feedWrite, feedRead, feed, view}
 use Rattle.isolation.specs.Isolation.{UnfedUntouched, OthersUntouched}
 use Rattle.isolation.proofs.Parts.{Number}
 use Rattle.isolation.proofs.Cases.{withChannelAt-other, range-in, named-number}
 use Rattle.isolation.proofs.One.{withBoth}
 use Rattle.isolation.proofs.Words.{over-theirs, setpoints-over, replies-over, writes-over}
-use Rattle.isolation.proofs.Worlds.{either, step-refused, step-given, plain, parted-sets, parted-reads}
+use Rattle.isolation.proofs.Worlds.{either, step-refused, step-given, plain, plain-query, parted-sets, parted-reads}
 
 module _ (w : World) (c : ℕ) (h : Number c) (d : ℕ) (ne : c ≡ d → ⊥) where
   pub other-write : (a o v : ℕ) → named a ≡ channel d o → view c (plain w (writeRegister a v)) ≡ view c w
@@ -113,13 +113,13 @@ module _ (c d k j : ℕ) (ne : c ≡ d → ⊥) where
   naming-feeds : (x : Call) → names x d ≡ true → feed c x k j ≡ []
   naming-feeds (writeRegister a v) t = go (named a) t
     where
-      go : (n : Named) → namesAt n d ≡ true → feedWrite c n k v ≡ []
+      go : (n : Named) → namesIn (writeScope n) d ≡ true → feedWrite c n k v ≡ []
       go (main o) t = clash t
       go (channel i o) t = away i (to.writeRegister k o v) t
       go nothing t = clash t
   naming-feeds (readRegister a) t = go (named a) t
     where
-      go : (n : Named) → namesAt n d ≡ true → feedRead c n ≡ []
+      go : (n : Named) → namesIn (readScope n) d ≡ true → feedRead c n ≡ []
       go (main o) t = clash t
       go (channel i o) t = away i (to.readRegister o) t
       go nothing t = clash t
@@ -127,8 +127,7 @@ module _ (c d k j : ℕ) (ne : c ≡ d → ⊥) where
   naming-feeds (arm i) t = away i to.arm t
   naming-feeds (disarm i) t = away i to.disarm t
   naming-feeds (reply i f) t = away i (to.reply k f) t
-  naming-feeds (retired i) t = away i (to.retired k j) t
-  naming-feeds (retiredLength i) t = away i (to.retiredLength k j) t
+  naming-feeds (query i q) t = away i (to.query q k j) t
   naming-feeds tick t = clash t
   naming-feeds (event x) t = clash t
   naming-feeds (changeUser u) t = clash t
@@ -162,8 +161,7 @@ module _ (w : World) (c : ℕ) (h : Number c) (k j : ℕ) where
   unfed (arm d) t = other-armed w c h d (fed-none d c to.arm t) true
   unfed (disarm d) t = other-armed w c h d (fed-none d c to.disarm t) false
   unfed (reply d f) t = other-reply w c h d (fed-none d c (to.reply k f) t) f
-  unfed (retired d) t = refl
-  unfed (retiredLength d) t = refl
+  unfed (query d q) t = ap (view c) (plain-query w d q)
   unfed tick t = fed-some t
   unfed (event x) t = fed-some t
   unfed (changeUser u) t = fed-some t

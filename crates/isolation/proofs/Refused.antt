@@ -26,7 +26,7 @@ use Rattle.board_state.specs.Main.{mainValue}
 use Rattle.board_state.specs.Parts.{own, withOwn}
 use Rattle.board.specs.Calls.{readbacksFit, setpointsFit, noChannel, readbackSize, setpointSize, writeBoardAt, writeAnswerAt, writeWordsAt, readBoardAt, readAnswerAt}
 use Rattle.board.specs.Calls as calls
-use Rattle.isolation.specs.Calls.{Call, writeRegister, readRegister, writeSetpoint, arm, disarm, reply, retired, retiredLength, tick, event, changeUser, interruptLevel, Lent, none, words, buffers, first, answer, after, wordsAfter, lentAfter, refused}
+use Rattle.isolation.specs.Calls.{Call, writeRegister, readRegister, writeSetpoint, arm, disarm, reply, query, tick, event, changeUser, interruptLevel, Lent, none, words, buffers, first, answer, after, wordsAfter, lentAfter, refused}
 use Rattle.isolation.specs.Isolation.{RefusedChangesNothing}
 use Rattle.isolation.proofs.Parts.{own-same}
 use Rattle.isolation.proofs.Cases.{unless-refused, withChannelAt-own}
@@ -167,8 +167,7 @@ module _ (b : Board) where
   refused-board (arm d) l h = armed-board d true h
   refused-board (disarm d) l h = armed-board d false h
   refused-board (reply d f) l h = reply-board (length (first l)) d f h
-  refused-board (retired d) l h = refl
-  refused-board (retiredLength d) l h = refl
+  refused-board (query d q) l h = refl
   refused-board tick l h = tick-board l h
   refused-board (event x) l h = event-board (length (first l)) x h
   refused-board (changeUser u) l h = user-board u h
@@ -182,8 +181,7 @@ module _ (b : Board) where
   refused-words (arm d) s h = refl
   refused-words (disarm d) s h = refl
   refused-words (reply d f) s h = reply-all s d f h
-  refused-words (retired d) s h = refl
-  refused-words (retiredLength d) s h = refl
+  refused-words (query d q) s h = refl
   refused-words tick s h = refl
   refused-words (event x) s h = event-words s x h
   refused-words (changeUser u) s h = refl

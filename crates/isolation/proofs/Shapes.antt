@@ -1,6 +1,6 @@
 -- Every call keeps the depths, the four channels and the lengths of both memories. Assumes nothing.
 use Prim.Native.Nat.{ℕ, _*_}
-use mathlib.Core.Path.{_≡_, refl, sym, ap, _∙_}
+use mathlib.Core.Path.{_≡_, refl, sym, ap, subst, _∙_}
 use mathlib.Core.Bool.{Bool, true, false}
 use mathlib.Core.List.{List}
 use native.Mathlib.Omega.{arith}
@@ -20,10 +20,10 @@ use Rattle.board_state.specs.Main.{mainWritten, mainRead, statusRead, takenAt}
 use Rattle.board.specs.Calls.{noChannel, setpointsFit, readbacksFit, writeBoardAt, readBoardAt, eventBoards, eventBoardAt, changedAt}
 use Rattle.board.specs.Calls as calls
 use Rattle.board.specs.Worlds.{World}
-use Rattle.isolation.specs.Calls.{Call, writeRegister, readRegister, writeSetpoint, arm, disarm, reply, retired, retiredLength, tick, event, changeUser, interruptLevel, Lent, first, after, wordsAfter}
+use Rattle.isolation.specs.Calls.{Call, writeRegister, readRegister, writeSetpoint, arm, disarm, reply, query, tick, event, changeUser, interruptLevel, Lent, first, after, wordsAfter}
 use Rattle.isolation.proofs.Cases.{named-number}
 use Rattle.isolation.proofs.Words.{over-length, setpoints-over, replies-over, writes-over}
-use Rattle.isolation.proofs.Worlds.{Good, plain, parted-sets, parted-reads, full-reads}
+use Rattle.isolation.proofs.Worlds.{Good, plain, plain-query, parted-sets, parted-reads, full-reads}
 use Rattle.isolation.proofs.Events.{good-first}
 
 -- ---- The board
@@ -68,8 +68,7 @@ module _ (b : Board) where
       either (Shape b) (readbacksFit b (length (first l)))
       (either (Shape b) (noChannel d) same (record { n = refl; m = refl; channels = simp length-set }))
       same
-  shape (retired d) l = same
-  shape (retiredLength d) l = same
+  shape (query d q) l = same
   shape tick l =
       either (Shape b) (setpointsFit b (length (first l))) (record { n = refl; m = refl; channels = simp length-set }) same
   shape (event x) l =
@@ -134,8 +133,7 @@ module _ (w : World) (g : Good w) where
   good-plain (disarm d) = good-by _ _ _ (shape (w .board) (disarm d) _) refl refl
   good-plain (reply d f) =
       good-by _ _ _ (shape (w .board) (reply d f) _) refl (replies-length (w .board) (w .readbacks) d f)
-  good-plain (retired d) = good-by _ _ _ (shape (w .board) (retired d) _) refl refl
-  good-plain (retiredLength d) = good-by _ _ _ (shape (w .board) (retiredLength d) _) refl refl
+  good-plain (query d q) = subst Good (sym (plain-query w d q)) g
   good-plain tick = good-by _ _ _ (shape (w .board) tick _) refl refl
   good-plain (event x) = good-by _ _ _ (shape (w .board) (event x) _) refl (event-kept x)
   good-plain (changeUser u) = good-by _ _ _ (shape (w .board) (changeUser u) _) refl refl

@@ -13,7 +13,7 @@ use Rattle.channel_core.specs.declared.Channel.{Channel}
 use Rattle.channel_core.specs.State.{opened}
 use Rattle.channel_core.specs.Behaviour as core
 use Rattle.channel.specs.Calls as chn
-use Rattle.channel.specs.OneChannel.{withChannel, withSetpoints, withUser, transition, refusalOf, effect, userRefusal}
+use Rattle.channel.specs.OneChannel.{Query, withChannel, withSetpoints, withUser, transition, refusalOf, effect, userRefusal}
 use Rattle.channel.specs.OneChannel as to
 use Rattle.channel.proofs.Cases.{either}
 use Rattle.histories.proofs.Lengths.{written-length, setpoint-length, reply-length}
@@ -24,13 +24,13 @@ use Rattle.board_state.specs.Parts.{own}
 use Rattle.board.specs.Calls.{tickChannel, changedAt}
 use Rattle.board.specs.Calls as calls
 use Rattle.board.specs.Worlds.{World}
-use Rattle.isolation.specs.Calls.{writeRegister, readRegister, writeSetpoint, reply, retired, retiredLength, tick, event, changeUser, withBoard, after, wordsAfter}
+use Rattle.isolation.specs.Calls.{writeRegister, readRegister, writeSetpoint, reply, query, tick, event, changeUser, withBoard, after, wordsAfter}
 use Rattle.isolation.specs.Feeding.{view}
 use Rattle.isolation.proofs.Parts.{Number}
 use Rattle.isolation.proofs.Cases.{four-stored, withChannelAt-same, in-range}
-use Rattle.isolation.proofs.One.{withBoth, transition-write, transition-reply, transition-event, transition-setpoint, transition-tick, transition-read, transition-main, transition-retired}
+use Rattle.isolation.proofs.One.{withBoth, transition-write, transition-reply, transition-event, transition-setpoint, transition-tick, transition-read, transition-main, transition-query}
 use Rattle.isolation.proofs.Words.{over-mine, setpoints-over, replies-over, writes-over}
-use Rattle.isolation.proofs.Worlds.{Good, plain, parted-sets, parted-reads, full-sets, full-reads}
+use Rattle.isolation.proofs.Worlds.{Good, plain, plain-query, parted-sets, parted-reads, full-sets, full-reads}
 use Rattle.isolation.proofs.Events.{past-it}
 use Rattle.isolation.proofs.Mains.{status-taken}
 
@@ -81,13 +81,8 @@ module _ (w : World) (g : Good w) (c : ℕ) (h : Number c) where
       (λ p. reply-length (channelAt (w .board) c) p (w .board .m) (w .board .user) f) (g .reads) h)
       ∙ sym (transition-reply (view c w) (length (w .readbacks)) (full-reads w g) f))
 
-  pub view-retired : (d k j : ℕ) → view c (plain w (retired d)) ≡ transition (view c w) (to.retired k j)
-  unfolding after
-  view-retired d k j = sym (transition-retired (view c w) k j .0)
-
-  pub view-retiredLength : (d k j : ℕ) → view c (plain w (retiredLength d)) ≡ transition (view c w) (to.retiredLength k j)
-  unfolding after
-  view-retiredLength d k j = sym (transition-retired (view c w) k j .1)
+  pub view-query : (d : ℕ) (q : Query) (k j : ℕ) → view c (plain w (query d q)) ≡ transition (view c w) (to.query q k j)
+  view-query d q k j = ap (view c) (plain-query w d q) ∙ sym (transition-query (view c w) q k j)
 
   -- ---- Shared calls
 

@@ -1,5 +1,5 @@
 -- A step of the world: refused, it stays; lent the memory as left, it is what the contracts say, with no test. Assumes nothing.
-use Prim.Native.Nat.{_*_}
+use Prim.Native.Nat.{ℕ, _*_}
 use mathlib.Core.Path.{_≡_, refl, sym, ap, _∙_}
 use mathlib.Core.Logic.{_⊎_, inl, inr}
 use mathlib.Core.Bool.{true}
@@ -8,9 +8,10 @@ use lib.ListN.{length}
 use lib.Dec.{eqb}
 use borrow.Author.Tests.{eq-eqb}
 use Rattle.channel.proofs.Cases.{by-test}
+use Rattle.channel.specs.OneChannel.{Query}
 use Rattle.board_state.specs.declared.Board.{Board}
 use Rattle.board.specs.Worlds.{World}
-use Rattle.isolation.specs.Calls.{Call, writeRegister, readRegister, writeSetpoint, arm, disarm, reply, retired, retiredLength, tick, event, changeUser, interruptLevel, Lent, Item, after, lentAfter, refused, given, withBoard, back, step, Fits}
+use Rattle.isolation.specs.Calls.{Call, query, Lending, lendsNothing, lendsSetpoints, lendsReadbacks, lendsBuffers, queryLending, lending, lentFrom, backTo, Lent, Item, after, wordsAfter, lentAfter, refused, given, withBoard, back, step, Fits}
 use Rattle.isolation.proofs.Refused.{refused-changes-nothing}
 
 pub either : (w : World) (i : Item) → Fits w i → (refused (w .board) (i .call) (i .lent) ≡ true) ⊎ (i .lent ≡ given w (i .call))
@@ -21,19 +22,11 @@ pub step-refused : (w : World) (i : Item) → refused (w .board) (i .call) (i .l
 unfolding step
 step-refused w i e = rw e (ap (withBoard w) (refused-changes-nothing (w .board) (i .call) (i .lent) e .0))
 
-back-own : (w : World) (x : Call) (b : Board) → back (withBoard w b) x (given w x) ≡ withBoard w b
-back-own w (writeRegister a v) b = refl
-back-own w (readRegister a) b = refl
-back-own w (writeSetpoint d u f i x) b = refl
-back-own w (arm d) b = refl
-back-own w (disarm d) b = refl
-back-own w (reply d f) b = refl
-back-own w (retired d) b = refl
-back-own w (retiredLength d) b = refl
-back-own w tick b = refl
-back-own w (event x) b = refl
-back-own w (changeUser u) b = refl
-back-own w interruptLevel b = refl
+back-own : (w : World) (x : Lending) (b : Board) → backTo (withBoard w b) x (lentFrom w x) ≡ withBoard w b
+back-own w lendsNothing b = refl
+back-own w lendsSetpoints b = refl
+back-own w lendsReadbacks b = refl
+back-own w (lendsBuffers d) b = refl
 
 -- the call on the memory as left: a refused one leaves what it was lent, so no test remains
 abbrev pub plain : World → Call → World
@@ -46,8 +39,19 @@ step-given w i e =
     ∙ by-test (λ (r : World). r ≡ plain w (i .call)) (refused (w .board) (i .call) (given w (i .call)))
     (λ t. sym (ap (back (withBoard w (after (w .board) (i .call) (given w (i .call)))) (i .call))
     (refused-changes-nothing (w .board) (i .call) (given w (i .call)) t .1)
-    ∙ back-own w (i .call) (after (w .board) (i .call) (given w (i .call)))))
+    ∙ back-own w (lending (i .call)) (after (w .board) (i .call) (given w (i .call)))))
     (λ t. refl)
+
+-- one that changes nothing leaves the world as it is
+pub plain-query : (w : World) (d : ℕ) (q : Query) → plain w (query d q) ≡ w
+unfolding after wordsAfter
+plain-query w d q = go (queryLending d q)
+  where
+    go : (x : Lending) → backTo (withBoard w (w .board)) x (lentAfter (w .board) (query d q) (lentFrom w x)) ≡ w
+    go lendsNothing = refl
+    go lendsSetpoints = refl
+    go lendsReadbacks = refl
+    go (lendsBuffers e) = refl
 
 -- ---- What holds from the opening on
 

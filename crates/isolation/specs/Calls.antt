@@ -6,7 +6,9 @@ use mathlib.Core.Logic.{_⊎_}
 use mathlib.Core.List.{List, [], _∷_}
 use mathlib.Core.Bool.{Bool, true, cond}
 use lib.ListN.{length, take, drop}
+use Rattle.channel_core.specs.Answers.{Answer}
 use Rattle.channel_core.specs.Answers as ans
+use Rattle.channel.specs.OneChannel.{Query, retired, retiredLength}
 use Rattle.board_state.specs.declared.Board.{Board}
 use Rattle.board_state.specs.Main.{levelOf}
 use Rattle.board_state.specs.Parts.{own}
@@ -14,7 +16,8 @@ use Rattle.board.specs.Worlds.{World, world}
 use Rattle.board.specs.Answers.{BoardAnswer, one, refuses}
 use Rattle.board.specs.Calls as calls
 
--- "In the list stand the calls under Calls, the retired call's twin" (`retiredLength`): a call's arguments alone
+-- "In the list stand the calls under Calls, the retired call's twin": a call's arguments alone. `query` are the calls that name a channel and
+-- change nothing: retired readbacks and its twin
 pub data Call : Type 0 where
   writeRegister : (address value : ℕ) → Call
   readRegister : (address : ℕ) → Call
@@ -22,8 +25,7 @@ pub data Call : Type 0 where
   arm : (number : ℕ) → Call
   disarm : (number : ℕ) → Call
   reply : (number frame : ℕ) → Call
-  retired : (number : ℕ) → Call
-  retiredLength : (number : ℕ) → Call
+  query : (number : ℕ) → Query → Call
   tick : Call
   event : (code : ℕ) → Call
   changeUser : (user : ℕ) → Call
@@ -57,6 +59,10 @@ lengths (buffers s t) = length s ∷ (length t ∷ [])
 
 -- ---- What the contracts say of a call, refused or not: its answer, the board after it, the lent words after it
 
+abbrev pub queryAnswer : Board → ℕ → Query → Lent → Answer
+queryAnswer b number retired l = calls.retiredAnswer b number (first l) (second l)
+queryAnswer b number retiredLength l = calls.retiredLength b number (first l) (second l)
+
 unfoldable pub answer : Board → Call → Lent → BoardAnswer
 answer b (writeRegister address value) l = one (calls.writeAnswer b (length (first l)) address value)
 answer b (readRegister address) l = one (calls.readAnswer b address)
@@ -65,8 +71,7 @@ answer b (writeSetpoint number user buffer index word) l =
 answer b (arm number) l = one (calls.armAnswer number)
 answer b (disarm number) l = one (calls.armAnswer number)
 answer b (reply number frame) l = one (calls.replyAnswer b (length (first l)) number frame)
-answer b (retired number) l = one (calls.retiredAnswer b number (first l) (second l))
-answer b (retiredLength number) l = one (calls.retiredLength b number (first l) (second l))
+answer b (query number which) l = one (queryAnswer b number which l)
 answer b tick l = calls.tickBoardAnswer b (first l)
 answer b (event code) l = one (calls.eventAnswer b (length (first l)))
 answer b (changeUser user) l = one (calls.userAnswer user)
@@ -79,8 +84,7 @@ after b (writeSetpoint number user buffer index word) l = b
 after b (arm number) l = calls.armBoard b number
 after b (disarm number) l = calls.disarmBoard b number
 after b (reply number frame) l = calls.replyBoard b (length (first l)) number frame
-after b (retired number) l = b
-after b (retiredLength number) l = b
+after b (query number which) l = b
 after b tick l = calls.tickBoard b (first l)
 after b (event code) l = calls.eventBoard b (length (first l)) code
 after b (changeUser user) l = calls.userBoard b user
@@ -94,8 +98,7 @@ wordsAfter b (writeSetpoint number user buffer index word) s = calls.setpointWor
 wordsAfter b (arm number) s = s
 wordsAfter b (disarm number) s = s
 wordsAfter b (reply number frame) s = calls.replyWords b s number frame
-wordsAfter b (retired number) s = s
-wordsAfter b (retiredLength number) s = s
+wordsAfter b (query number which) s = s
 wordsAfter b tick s = s
 wordsAfter b (event code) s = calls.eventWords b s code
 wordsAfter b (changeUser user) s = s
@@ -111,7 +114,31 @@ lentAfter b x (buffers s t) = buffers s t
 abbrev pub refused : Board → Call → Lent → Bool
 refused b x l = refuses (answer b x l)
 
--- ---- One call
+-- ---- What a call is lent
+
+-- nothing, a memory, or the two readback buffers of a channel
+pub data Lending : Type 0 where
+  lendsNothing : Lending
+  lendsSetpoints : Lending
+  lendsReadbacks : Lending
+  lendsBuffers : (number : ℕ) → Lending
+
+abbrev pub queryLending : ℕ → Query → Lending
+queryLending number retired = lendsBuffers number
+queryLending number retiredLength = lendsBuffers number
+
+abbrev pub lending : Call → Lending
+lending (writeRegister address value) = lendsReadbacks
+lending (readRegister address) = lendsNothing
+lending (writeSetpoint number user buffer index word) = lendsSetpoints
+lending (arm number) = lendsNothing
+lending (disarm number) = lendsNothing
+lending (reply number frame) = lendsReadbacks
+lending (query number which) = queryLending number which
+lending tick = lendsSetpoints
+lending (event code) = lendsReadbacks
+lending (changeUser user) = lendsNothing
+lending interruptLevel = lendsNothing
 
 -- "buffers 1 and 2 of its channel"
 abbrev pub ownBuffers : World → ℕ → Lent
@@ -119,20 +146,18 @@ ownBuffers w number =
     buffers (take (w .board .m) (own (w .readbacks) (w .board .m * 2) number))
     (take (w .board .m) (drop (w .board .m) (own (w .readbacks) (w .board .m * 2) number)))
 
--- what a call that is not refused is lent: the memory as the opening and the unrefused calls before it left it
+-- the memory as the opening and the unrefused calls before it left it
+abbrev pub lentFrom : World → Lending → Lent
+lentFrom w lendsNothing = none
+lentFrom w lendsSetpoints = words (w .setpoints)
+lentFrom w lendsReadbacks = words (w .readbacks)
+lentFrom w (lendsBuffers number) = ownBuffers w number
+
+-- what a call that is not refused is lent
 abbrev pub given : World → Call → Lent
-given w (writeRegister address value) = words (w .readbacks)
-given w (readRegister address) = none
-given w (writeSetpoint number user buffer index word) = words (w .setpoints)
-given w (arm number) = none
-given w (disarm number) = none
-given w (reply number frame) = words (w .readbacks)
-given w (retired number) = ownBuffers w number
-given w (retiredLength number) = ownBuffers w number
-given w tick = words (w .setpoints)
-given w (event code) = words (w .readbacks)
-given w (changeUser user) = none
-given w interruptLevel = none
+given w x = lentFrom w (lending x)
+
+-- ---- One call
 
 -- the world with one part of it changed
 abbrev pub withBoard : World → Board → World
@@ -144,20 +169,15 @@ withSetpoints w s = record { board = w .board; setpoints = s; readbacks = w .rea
 abbrev pub withReadbacks : World → List ℕ → World
 withReadbacks w s = record { board = w .board; setpoints = w .setpoints; readbacks = s }
 
--- the world with the memory that the call was lent come back
+-- the world with what was lent come back: a memory may have changed, buffers are lent for reading only
+abbrev pub backTo : World → Lending → Lent → World
+backTo w lendsNothing l = w
+backTo w lendsSetpoints l = withSetpoints w (first l)
+backTo w lendsReadbacks l = withReadbacks w (first l)
+backTo w (lendsBuffers number) l = w
+
 abbrev pub back : World → Call → Lent → World
-back w (writeRegister address value) l = withReadbacks w (first l)
-back w (readRegister address) l = w
-back w (writeSetpoint number user buffer index word) l = withSetpoints w (first l)
-back w (arm number) l = w
-back w (disarm number) l = w
-back w (reply number frame) l = withReadbacks w (first l)
-back w (retired number) l = w
-back w (retiredLength number) l = w
-back w tick l = withSetpoints w (first l)
-back w (event code) l = withReadbacks w (first l)
-back w (changeUser user) l = w
-back w interruptLevel l = w
+back w x l = backTo w (lending x) l
 
 -- the board by the contract always; the memory by the contract, or where the call is refused as it was: what is lent to a refused call is
 -- no memory of the world

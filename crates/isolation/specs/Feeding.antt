@@ -14,35 +14,63 @@ use Rattle.board_state.specs.State.{channelAt}
 use Rattle.board_state.specs.Parts.{own}
 use Rattle.board.specs.Answers.{BoardAnswer, one, each, ofFour}
 use Rattle.board.specs.Worlds.{World}
-use Rattle.isolation.specs.Calls.{Call, writeRegister, readRegister, writeSetpoint, arm, disarm, reply, retired, retiredLength, tick, event, changeUser, interruptLevel, first, second, Item, answer, step}
+use Rattle.isolation.specs.Calls.{Call, writeRegister, readRegister, writeSetpoint, arm, disarm, reply, query, tick, event, changeUser, interruptLevel, first, second, Item, answer, step}
 
 -- one, or none
 abbrev pub only : {A : Type 0} → Bool → A → List A
 only true a = a ∷ []
 only false a = []
 
--- ---- Which calls name a channel
+-- ---- Whom a call concerns
 
--- "A register call names the channel in whose 0800h its address falls"
-abbrev pub namesAt : Named → ℕ → Bool
-namesAt (main offset) c = false
-namesAt (channel number offset) c = eqb number c
-namesAt nothing c = false
+pub data Scope : Type 0 where
+  -- it names a channel
+  ofOne : (number : ℕ) → Scope
+  -- shared: a tick, which answers each channel for itself
+  ofEach : Scope
+  -- shared: a read of a Main register
+  ofMain : (offset : ℕ) → Scope
+  -- any other shared call
+  ofAll : Scope
+  -- it concerns no channel
+  ofNone : Scope
 
--- "Naming a channel: register write, register read, setpoint write, arm, disarm, reply, retired readbacks."
+-- "A register call names the channel in whose 0800h its address falls"; an address from 2800h up "names no channel"
+abbrev pub writeScope : Named → Scope
+writeScope (main offset) = ofAll
+writeScope (channel number offset) = ofOne number
+writeScope nothing = ofNone
+
+abbrev pub readScope : Named → Scope
+readScope (main offset) = ofMain offset
+readScope (channel number offset) = ofOne number
+readScope nothing = ofNone
+
+-- "Naming a channel: register write, register read, setpoint write, arm, disarm, reply, retired readbacks." "Shared: tick (1 µs), event (8-bit
+-- code), user change, Main register use, interrupt level.": of the last no channel is told
+abbrev pub scope : Call → Scope
+scope (writeRegister address value) = writeScope (named address)
+scope (readRegister address) = readScope (named address)
+scope (writeSetpoint number user buffer index word) = ofOne number
+scope (arm number) = ofOne number
+scope (disarm number) = ofOne number
+scope (reply number frame) = ofOne number
+scope (query number which) = ofOne number
+scope tick = ofEach
+scope (event code) = ofAll
+scope (changeUser user) = ofAll
+scope interruptLevel = ofNone
+
+abbrev pub namesIn : Scope → ℕ → Bool
+namesIn (ofOne number) c = eqb number c
+namesIn ofEach c = false
+namesIn (ofMain offset) c = false
+namesIn ofAll c = false
+namesIn ofNone c = false
+
+-- whether a call names channel c
 abbrev pub names : Call → ℕ → Bool
-names (writeRegister address value) c = namesAt (named address) c
-names (readRegister address) c = namesAt (named address) c
-names (writeSetpoint number user buffer index word) c = eqb number c
-names (arm number) c = eqb number c
-names (disarm number) c = eqb number c
-names (reply number frame) c = eqb number c
-names (retired number) c = eqb number c
-names (retiredLength number) c = eqb number c
-names tick c = false
-names (event code) c = false
-names (changeUser user) c = false
-names interruptLevel c = false
+names x c = namesIn (scope x) c
 
 -- ---- What channel c is fed: "calls with their arguments and lent lengths, never the board's answers or state"
 
@@ -66,8 +94,7 @@ feed c (writeSetpoint number user buffer index word) k j =
 feed c (arm number) k j = only (eqb number c) to.arm
 feed c (disarm number) k j = only (eqb number c) to.disarm
 feed c (reply number frame) k j = only (eqb number c) (to.reply k frame)
-feed c (retired number) k j = only (eqb number c) (to.retired k j)
-feed c (retiredLength number) k j = only (eqb number c) (to.retiredLength k j)
+feed c (query number which) k j = only (eqb number c) (to.query which k j)
 feed c tick k j = to.tick k ∷ []
 feed c (event code) k j = to.event k code ∷ []
 feed c (changeUser user) k j = to.changeUser user ∷ []
@@ -90,46 +117,29 @@ shared a = cond (isRefusal a) a ans.done
 -- the word of a register read
 abbrev pub valueOf : Answer → ℕ
 valueOf (ans.refused k) = 0
-valueOf ans.done = 0
 valueOf (ans.value v) = v
-valueOf (ans.bit t) = 0
 valueOf (ans.frame f) = 0
-valueOf ans.none = 0
 valueOf ans.kept = 0
 valueOf ans.lost = 0
-valueOf ans.unsolicited = 0
 valueOf (ans.part s) = 0
-valueOf (ans.partLength k) = 0
+valueOf (ans.other r) = 0
 
 -- "and its bit when 28 or 2A is read": "D7–D4 channels 4–1"
 abbrev pub sharedRead : ℕ → ℕ → Answer → Answer
 sharedRead c offset a =
     cond (isRefusal a) a (cond (eqb offset 0x28 || eqb offset 0x2a) (ans.bit (bitAt (valueOf a) (3 + c))) ans.done)
 
-abbrev pub observeWrite : ℕ → Named → Answer → List Answer
-observeWrite c (main offset) a = shared a ∷ []
-observeWrite c (channel number offset) a = only (eqb number c) a
-observeWrite c nothing a = []
+-- "for a call naming the channel, the answer, be it a refusal's number or a part's words in order"; for a shared call, the number if refused,
+-- "this channel's frame or none on a tick, and its bit when 28 or 2A is read"
+abbrev pub observeIn : ℕ → Scope → BoardAnswer → List Answer
+observeIn c (ofOne number) s = only (eqb number c) (answerFor c s)
+observeIn c ofEach s = answerFor c s ∷ []
+observeIn c (ofMain offset) s = sharedRead c offset (answerFor c s) ∷ []
+observeIn c ofAll s = shared (answerFor c s) ∷ []
+observeIn c ofNone s = []
 
-abbrev pub observeRead : ℕ → Named → Answer → List Answer
-observeRead c (main offset) a = sharedRead c offset a ∷ []
-observeRead c (channel number offset) a = only (eqb number c) a
-observeRead c nothing a = []
-
--- "for a call naming the channel, the answer, be it a refusal's number or a part's words in order"
 abbrev pub observe : ℕ → Call → BoardAnswer → List Answer
-observe c (writeRegister address value) s = observeWrite c (named address) (answerFor c s)
-observe c (readRegister address) s = observeRead c (named address) (answerFor c s)
-observe c (writeSetpoint number user buffer index word) s = only (eqb number c) (answerFor c s)
-observe c (arm number) s = only (eqb number c) (answerFor c s)
-observe c (disarm number) s = only (eqb number c) (answerFor c s)
-observe c (reply number frame) s = only (eqb number c) (answerFor c s)
-observe c (retired number) s = only (eqb number c) (answerFor c s)
-observe c (retiredLength number) s = only (eqb number c) (answerFor c s)
-observe c tick s = answerFor c s ∷ []
-observe c (event code) s = shared (answerFor c s) ∷ []
-observe c (changeUser user) s = shared (answerFor c s) ∷ []
-observe c interruptLevel s = []
+observe c x s = observeIn c (scope x) s
 
 -- ---- What of the world is channel c's: all that the one-channel definition holds
 

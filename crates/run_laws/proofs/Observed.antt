@@ -18,15 +18,16 @@ use Rattle.channel_core.specs.Answers as ans
 use Rattle.channel_core.specs.Behaviour.{receiptAnswer, dispositionNow, replyAnswerAs, replyAnswer}
 use Rattle.channel.specs.Calls.{unless}
 use Rattle.channel.specs.Calls as chn
-use Rattle.channel.specs.OneChannel.{userRefusal}
+use Rattle.channel.specs.OneChannel.{Query, userRefusal}
+use Rattle.channel.specs.OneChannel as to
 use Rattle.board_state.specs.declared.Board.{Board}
 use Rattle.board_state.specs.State.{channelAt}
 use Rattle.board_state.specs.Main.{mainValue}
-use Rattle.board.specs.Answers.{BoardAnswer}
+use Rattle.board.specs.Answers.{BoardAnswer, one}
 use Rattle.board.specs.Calls.{noChannel, setpointsFit, readbacksFit, readAnswerAt, writeAnswerAt}
 use Rattle.board.specs.Calls as calls
-use Rattle.isolation.specs.Calls.{Call, writeRegister, readRegister, writeSetpoint, arm, disarm, reply, retired, retiredLength, tick, event, changeUser, interruptLevel, Lent, first, second, answer}
-use Rattle.isolation.specs.Feeding.{only, answerFor, shared, sharedRead, observeWrite, observeRead, observe}
+use Rattle.isolation.specs.Calls.{Call, writeRegister, readRegister, writeSetpoint, arm, disarm, reply, query, tick, event, changeUser, interruptLevel, Lent, first, second, queryAnswer, answer}
+use Rattle.isolation.specs.Feeding.{only, Scope, ofOne, ofEach, ofMain, ofAll, ofNone, writeScope, readScope, answerFor, shared, sharedRead, observeIn, observe}
 use Rattle.channel.proofs.Cases.{by-test}
 use Rattle.tally.specs.Tallies.{sends}
 use Rattle.run_file.specs.Laws.{howMany}
@@ -82,43 +83,49 @@ arm-quiet d = by-test Quiet (noChannel d) (λ t. record { quiet = refl }) (λ t.
 
 -- ---- What is observed of them
 
+one-quiet : (a : Answer) → Quiet a → howMany isFrame (a ∷ []) ≡ 0
+unfolding howMany
+one-quiet a q = rw (q .quiet)
+
 only-quiet : (t : Bool) (a : Answer) → Quiet a → howMany isFrame (only t a) ≡ 0
 unfolding howMany
-only-quiet true a q = rw (q .quiet)
+only-quiet true a q = one-quiet a q
 only-quiet false a q = refl
 
-shared-quiet : (a : Answer) → Quiet a → howMany isFrame (shared a ∷ []) ≡ 0
-shared-quiet a q = only-quiet true (shared a) (by-test Quiet (isRefusal a) (λ t. q) (λ t. record { quiet = refl }))
-
-observed-write : (c : ℕ) (n : Named) (a : Answer) → Quiet a → howMany isFrame (observeWrite c n a) ≡ 0
+-- whomever the call concerns
+observed-quiet : (c : ℕ) (x : Scope) (a : Answer) → Quiet a → howMany isFrame (observeIn c x (one a)) ≡ 0
 unfolding howMany
-observed-write c (main o) a q = shared-quiet a q
-observed-write c (channel d o) a q = only-quiet (eqb d c) a q
-observed-write c nothing a q = refl
-
-observed-read : (c : ℕ) (n : Named) (a : Answer) → Quiet a → howMany isFrame (observeRead c n a) ≡ 0
-unfolding howMany
-observed-read c (main o) a q =
-    only-quiet true (sharedRead c o a)
+observed-quiet c (ofOne d) a q = only-quiet (eqb d c) a q
+observed-quiet c ofEach a q = one-quiet a q
+observed-quiet c (ofMain o) a q =
+    one-quiet (sharedRead c o a)
     (by-test Quiet (isRefusal a) (λ t. q) (λ t. by-test Quiet (eqb o 0x28 || eqb o 0x2a) (λ t. record { quiet = refl }) (λ t. record { quiet = refl })))
-observed-read c (channel d o) a q = only-quiet (eqb d c) a q
-observed-read c nothing a q = refl
+observed-quiet c ofAll a q = one-quiet (shared a) (by-test Quiet (isRefusal a) (λ t. q) (λ t. record { quiet = refl }))
+observed-quiet c ofNone a q = refl
+
+query-quiet : (b : Board) (d : ℕ) (q : Query) (l : Lent) → Quiet (queryAnswer b d q l)
+unfolding calls.retiredAnswer calls.retiredLength
+query-quiet b d to.retired l =
+    unless-quiet (calls.retiredRefusal b d (length (first l)) (length (second l))) (ans.part (calls.retiredWords b d (first l) (second l)))
+    (record { quiet = refl })
+query-quiet b d to.retiredLength l =
+    unless-quiet (calls.retiredRefusal b d (length (first l)) (length (second l))) (ans.partLength (length (calls.retiredWords b d (first l) (second l))))
+    (record { quiet = refl })
 
 pub frames-observed : (c : ℕ) (b : Board) (x : Call) (l : Lent) → howMany isFrame (observe c x (answer b x l)) ≡ howMany (sends c) (answer b x l ∷ [])
-unfolding howMany answer calls.writeAnswer calls.readAnswer calls.retiredAnswer calls.retiredLength calls.tickBoardAnswer calls.eventAnswer calls.userAnswer
+unfolding howMany answer calls.writeAnswer calls.readAnswer calls.tickBoardAnswer calls.eventAnswer calls.userAnswer
 frames-observed c b (writeRegister a v) l =
-    observed-write c (named a) _ (by-test Quiet (readbacksFit b (length (first l))) (λ t. write-at b (named a) v) (λ t. record { quiet = refl }))
-frames-observed c b (readRegister a) l = observed-read c (named a) _ (read-at b (named a))
-frames-observed c b (writeSetpoint d u f i y) l = only-quiet (eqb d c) _ (setpoint-quiet b (length (first l)) d u f i)
-frames-observed c b (arm d) l = only-quiet (eqb d c) _ (arm-quiet d)
-frames-observed c b (disarm d) l = only-quiet (eqb d c) _ (arm-quiet d)
-frames-observed c b (reply d y) l = only-quiet (eqb d c) _ (reply-quiet b (length (first l)) d y)
-frames-observed c b (retired d) l = only-quiet (eqb d c) _ (unless-quiet (calls.retiredRefusal b d (length (first l)) (length (second l))) (ans.part (calls.retiredWords b d (first l) (second l))) (record { quiet = refl }))
-frames-observed c b (retiredLength d) l = only-quiet (eqb d c) _ (unless-quiet (calls.retiredRefusal b d (length (first l)) (length (second l))) (ans.partLength (length (calls.retiredWords b d (first l) (second l)))) (record { quiet = refl }))
+    observed-quiet c (writeScope (named a)) _ (by-test Quiet (readbacksFit b (length (first l))) (λ t. write-at b (named a) v) (λ t. record { quiet = refl }))
+frames-observed c b (readRegister a) l = observed-quiet c (readScope (named a)) _ (read-at b (named a))
+frames-observed c b (writeSetpoint d u f i y) l = observed-quiet c (ofOne d) _ (setpoint-quiet b (length (first l)) d u f i)
+frames-observed c b (arm d) l = observed-quiet c (ofOne d) _ (arm-quiet d)
+frames-observed c b (disarm d) l = observed-quiet c (ofOne d) _ (arm-quiet d)
+frames-observed c b (reply d y) l = observed-quiet c (ofOne d) _ (reply-quiet b (length (first l)) d y)
+frames-observed c b (query d q) l = observed-quiet c (ofOne d) _ (query-quiet b d q l)
 frames-observed c b tick l =
     by-test (λ (s : BoardAnswer). howMany isFrame (answerFor c s ∷ []) ≡ howMany (sends c) (s ∷ []))
     (setpointsFit b (length (first l))) (λ t. refl) (λ t. refl)
 frames-observed c b (event y) l =
-    shared-quiet _ (by-test Quiet (readbacksFit b (length (first l))) (λ t. record { quiet = refl }) (λ t. record { quiet = refl }))
-frames-observed c b (changeUser u) l = shared-quiet _ (unless-quiet (userRefusal u) ans.done (record { quiet = refl }))
+    observed-quiet c ofAll _ (by-test Quiet (readbacksFit b (length (first l))) (λ t. record { quiet = refl }) (λ t. record { quiet = refl }))
+frames-observed c b (changeUser u) l = observed-quiet c ofAll _ (unless-quiet (userRefusal u) ans.done (record { quiet = refl }))
 frames-observed c b interruptLevel l = refl
