@@ -2,8 +2,8 @@
 //
 //   rules        (run in the repository's folder)
 //
-// - Every word of document 01 (docs/papers/01-scope.md) is quoted by a row of RULES.md, and every quote there is verbatim, of document 01 or 02.
-// - Every quote of documents 01 and 02 in DECISIONS.md is verbatim.
+// - RULES.md quotes every word of document 01, in its order and nothing else; and so for each request of document 02 that has landed, in the
+//   section with its title ("## Card 5. ..", as the paper has it). A quote of document 01 or 02 in DECISIONS.md is verbatim.
 // - Every row names a definition, a contract or a theorem, or says that it is no rule of behaviour.
 // - Every name in a row, in an entry's "In the code" of DECISIONS.md and in ARCHITECTURE.md is in the tree: in the place given after it, or
 //   anywhere if there is none; and every entry that a page cites is in DECISIONS.md.
@@ -12,200 +12,44 @@
 //
 // A name stands between backticks: `crate::function`, a file's path, or a definition or law, whose place may follow: (crate/specs/File) or
 // "in crates/crate/specs/File.antt".
-use std::collections::BTreeMap;
+//
+// The papers come with the order for the bench. Where 01-scope.md and 02-change-requests.md are at hand, in the folder that V233_PAPERS names
+// or in ../shared/docs, the quotes are compared with them word by word. With or without them the quotes are compared with their length and
+// digest below.
 use std::fs;
-use std::path::{Path, PathBuf};
+use std::path::Path;
 
-struct Tree {
-    // by crate, then by path without its ending (specs/Words, src/lib, must-fail): the names that it defines
-    names: BTreeMap<String, BTreeMap<String, Vec<String>>>,
-}
+#[path = "rules/layout.rs"]
+mod layout;
+#[path = "rules/papers.rs"]
+mod papers;
+#[path = "rules/quotes.rs"]
+mod quotes;
+#[path = "rules/sha256.rs"]
+mod sha256;
+#[path = "rules/tree.rs"]
+mod tree;
 
-fn files(at: &Path, out: &mut Vec<PathBuf>) {
-    let mut entries: Vec<_> = fs::read_dir(at).map(|d| d.flatten().map(|e| e.path()).collect()).unwrap_or_default();
-    entries.sort();
-    for path in entries {
-        if path.is_dir() {
-            files(&path, out);
-        } else {
-            out.push(path);
-        }
-    }
-}
+use papers::Papers;
+use quotes::{of_decisions, of_rules, spaced, unread, Quote};
+use tree::{quoted, tree, wrong, Tree};
 
-// The word at the start of a text, with the signs that names have.
-fn word(text: &str) -> &str {
-    let end = text.find(|c: char| c.is_whitespace() || "(){}:;,<=".contains(c)).unwrap_or(text.len());
-    &text[..end]
-}
+const RULES: &str = "docs/RULES.md";
+const DECISIONS: &str = "docs/DECISIONS.md";
+const ARCHITECTURE: &str = "docs/ARCHITECTURE.md";
 
-fn defined(line: &str, code: bool) -> Option<String> {
-    let mut rest = line.trim_start();
-    let field = rest.len() < line.len();
-    let mut marked = false;
-    while let Some((head, tail)) = rest.split_once(' ') {
-        let skipped = if code { &["pub", "pub(crate)", "const", "fn", "struct", "enum"][..] } else { &["pub", "abbrev", "unfoldable", "record", "data"][..] };
-        if !skipped.contains(&head) {
-            break;
-        }
-        marked = marked || !head.starts_with("pub");
-        rest = tail.trim_start();
-    }
-    let name = word(rest);
-    if name.is_empty() || (code && !marked) {
-        return None;
-    }
-    // a definition's or law's type, or the head of a record; a field of a record stands further in
-    let typed = rest[name.len()..].trim_start().starts_with(':') || (!code && marked);
-    if code || (typed && (!field || line.starts_with("  "))) { Some(name.to_string()) } else { None }
-}
-
-fn tree() -> Tree {
-    let mut names = BTreeMap::new();
-    let mut all = Vec::new();
-    files(Path::new("crates"), &mut all);
-    for path in all {
-        let parts: Vec<String> = path.components().map(|c| c.as_os_str().to_string_lossy().into_owned()).collect();
-        let (krate, stem) = (parts[1].clone(), path.file_stem().unwrap().to_string_lossy().into_owned());
-        let ending = path.extension().map(|e| e.to_string_lossy().into_owned()).unwrap_or_default();
-        let places: &mut BTreeMap<String, Vec<String>> = names.entry(krate).or_default();
-        if ending == "edit" {
-            places.entry("must-fail".to_string()).or_default().push(stem);
-        } else if ending == "rt" || ending == "antt" {
-            let text = fs::read_to_string(&path).unwrap_or_default();
-            let place = path.with_extension("").components().skip(2).map(|c| c.as_os_str().to_string_lossy().into_owned()).collect::<Vec<_>>().join("/");
-            places.entry(place).or_default().extend(text.lines().filter_map(|l| defined(l, ending == "rt")));
-        }
-    }
-    Tree { names }
-}
-
-impl Tree {
-    // Whether a crate has a name, in the places that begin so.
-    fn has(&self, krate: &str, begins: &str, name: &str) -> bool {
-        self.names.get(krate).is_some_and(|p| p.iter().any(|(place, names)| place.starts_with(begins) && names.iter().any(|n| n == name)))
-    }
-
-    fn has_anywhere(&self, name: &str) -> bool {
-        self.names.keys().any(|krate| self.has(krate, "", name))
-    }
-
-    // Whether the place (crate, crate/specs, crate/specs/File) has the name; None if there is no such place.
-    fn at(&self, place: &str, name: &str) -> Option<bool> {
-        let (krate, rest) = place.split_once('/').unwrap_or((place, ""));
-        let places = self.names.get(krate)?;
-        if !places.keys().any(|p| p.starts_with(rest)) {
-            return None;
-        }
-        Some(self.has(krate, rest, name))
-    }
-}
-
-// The place that follows a name: the next parenthesis or "in crates/..", before the next semicolon.
-fn place(after: &str) -> Option<String> {
-    let until = after.find(';').unwrap_or(after.len());
-    let near = &after[..until];
-    let paren = near.find('(').and_then(|i| near[i..].find(')').map(|j| (i, near[i + 1..i + j].to_string())));
-    let path = near.find(" in crates/").map(|i| (i, word(&near[i + 11..]).trim_end_matches(['.', ',']).to_string()));
-    let found = match (paren, path) {
-        (Some(a), Some(b)) => if a.0 < b.0 { a.1 } else { b.1 },
-        (Some(a), None) => a.1,
-        (None, Some(b)) => b.1,
-        (None, None) => return None,
-    };
-    let found = found.split(',').next().unwrap_or("").trim().trim_end_matches(".antt").trim_end_matches(".rt").to_string();
-    if found.is_empty() || found.contains(' ') { None } else { Some(found) }
-}
-
-// What is wrong with a name, if anything.
-fn wrong(tree: &Tree, name: &str, after: &str) -> Option<String> {
-    if name.contains('/') || name.starts_with('.') {
-        return if Path::new(name).exists() { None } else { Some(format!("no such file: {name}")) };
-    }
-    if let Some((krate, rest)) = name.split_once("::") {
-        let last = rest.rsplit("::").next().unwrap_or(rest);
-        return if tree.has(krate, "src", last) { None } else { Some(format!("no such function: {name}")) };
-    }
-    if tree.names.contains_key(name) || name.contains(' ') {
-        return None;
-    }
-    if let Some(at) = place(after) {
-        match tree.at(&at, name) {
-            Some(true) => return None,
-            Some(false) => return Some(format!("{name} is not in {at}")),
-            None if at.contains('/') => return Some(format!("no such place: {at}")),
-            None => {}
-        }
-    }
-    if tree.has_anywhere(name) { None } else { Some(format!("no such name: {name}")) }
-}
-
-// The names between backticks of a text, each with what follows it.
-fn quoted(text: &str) -> Vec<(&str, &str)> {
-    let mut out = Vec::new();
-    let mut rest = text;
-    while let Some(i) = rest.find('`') {
-        let Some(j) = rest[i + 1..].find('`') else { break };
-        out.push((&rest[i + 1..i + 1 + j], &rest[i + j + 2..]));
-        rest = &rest[i + j + 2..];
-    }
-    out
-}
-
-fn spaced(text: &str) -> String {
-    text.split_whitespace().collect::<Vec<_>>().join(" ")
-}
-
-// Document 01 as one line, without headings, table rules and table heads.
-fn paper(text: &str) -> String {
-    let lines: Vec<&str> = text.lines().collect();
-    let mut out = String::new();
-    for (i, line) in lines.iter().enumerate() {
-        let head = lines.get(i + 1).is_some_and(|next| next.starts_with("|---"));
-        if line.starts_with('#') || line.starts_with("|---") || head {
-            continue;
-        }
-        out.push_str(&line.strip_prefix("- ").unwrap_or(line).replace('|', " "));
-        out.push(' ');
-    }
-    spaced(&out)
-}
-
-fn quotes(text: &str) -> Vec<String> {
-    text.split('«').skip(1).filter_map(|t| t.split_once('»')).map(|(q, _)| spaced(q)).collect()
-}
-
-// The words of the paper that no quote has, and the quotes that are neither in it nor in the other one.
-fn uncovered(paper: &str, other: &str, quotes: &[String]) -> Vec<String> {
-    let mut left: Vec<u8> = paper.bytes().collect();
-    let mut bad = Vec::new();
-    let mut long: Vec<&String> = quotes.iter().collect();
-    long.sort_by_key(|q| std::cmp::Reverse(q.len()));
-    for quote in long {
-        let mut found = false;
-        for (i, _) in paper.match_indices(quote.as_str()) {
-            found = true;
-            left[i..i + quote.len()].fill(b' ');
-        }
-        if !found && !other.contains(quote.as_str()) {
-            bad.push(format!("not in document 01 or 02: «{quote}»"));
-        }
-    }
-    let text = String::from_utf8_lossy(&left).into_owned();
-    for piece in text.split("  ") {
-        if piece.chars().any(char::is_alphabetic) {
-            bad.push(format!("in no row: {}", piece.trim()));
-        }
-    }
-    bad
-}
-
-// The quotes that a page gives of a paper ("document 01: «..»") and that are not in it.
-fn misquoted(page: &str, number: &str, paper: &str) -> Vec<String> {
-    let (text, start) = (spaced(paper), format!("document {number}: «"));
-    let given = page.split(start.as_str()).skip(1).filter_map(|t| t.split_once('»')).map(|(q, _)| spaced(q));
-    given.filter(|q| !text.contains(q.as_str())).map(|q| format!("not in document {number}: «{q}»")).collect()
-}
+// What each page quotes: the page, the text quoted, its length in bytes (UTF-8) and its SHA-256, as `printf '%s' "the words" | sha256sum` gives
+// it. A landed request is a line (RULES, "card 5", ..). After a change of quotes the test prints the new line, which is to be recorded only when
+// the papers are at hand and the test finds nothing else wrong.
+// - RULES: the words of the quotes, one space between any two. So they are the paper's own words without headings, table heads and rules, bars,
+//   and the dashes of lists:
+//     printf '%s' "$(grep -Ev '^(#|\|---|\| Number )' 01-scope.md | sed 's/^- //; s/|/ /g' | tr -s ' \n' ' ' | sed 's/^ //; s/ $//')" | sha256sum
+// - DECISIONS: the quotes of the document, one in a line, with no line break after the last.
+const RECORDED: &[(&str, &str, usize, &str)] = &[
+    (RULES, "document 01", 12836, "fbe055717a213fa1f2da2d30af2a07d97468556963ed01d9a36c4ea7241166e6"),
+    (DECISIONS, "document 01", 8091, "0c03647063dfd75ec9ea16a4afde50b8529bf7f082c6f42ed32e84344f6e89e5"),
+    (DECISIONS, "document 02", 723, "51681ffa7569f19996e953815b0c6e93e9d5ea341aaaa4a6f97abe0e4fedf139"),
+];
 
 // The entries of DECISIONS.md that a page cites: "entry D1", "Entry D1", "entries D1 (..) and D2", "entries D1 to D2".
 fn cited(text: &str) -> Vec<String> {
@@ -228,59 +72,6 @@ fn row_is_bare(cells: &[&str]) -> bool {
     let rest = cells[2..].join(" ");
     quoted(&rest).is_empty() && !["none;", "with its request", "DECISIONS.md", "rows ", "tests/"].iter().any(|w| rest.contains(w))
 }
-
-// The functions of a file of code that have 40 lines or more.
-fn long_functions(text: &str) -> Vec<String> {
-    let lines: Vec<&str> = text.lines().collect();
-    let mut long = Vec::new();
-    for (i, line) in lines.iter().enumerate() {
-        let start = line.trim_start();
-        let head = start.strip_prefix("pub ").unwrap_or(start);
-        if let Some(rest) = head.strip_prefix("fn ") {
-            let close = format!("{}}}", &line[..line.len() - start.len()]);
-            let size = lines[i..].iter().position(|l| *l == close).map_or(0, |n| n + 1);
-            if size >= 40 {
-                long.push(format!("{} has {size} lines", word(rest)));
-            }
-        }
-    }
-    long
-}
-
-// What is wrong with the layout of the crates.
-fn layout() -> Vec<String> {
-    let mut bad = Vec::new();
-    let page = fs::read_to_string("docs/ARCHITECTURE.md").unwrap_or_default();
-    let table: String = page.lines().filter(|l| l.starts_with("| `")).filter_map(|l| l.split(" | ").next()).collect();
-    for line in fs::read_to_string("crates.txt").unwrap_or_default().lines() {
-        let name = line.split(':').next().unwrap_or("");
-        if !name.is_empty() && !table.contains(&format!("`{name}`")) {
-            bad.push(format!("ARCHITECTURE.md: no row for the crate {name}"));
-        }
-    }
-    let mut all = Vec::new();
-    files(Path::new("crates"), &mut all);
-    for path in all {
-        let text = fs::read_to_string(&path).unwrap_or_default();
-        let shown = path.display();
-        if shown.to_string().contains("/specs/") && !path.ends_with("Lib.antt") && !text.starts_with("-- ") {
-            bad.push(format!("{shown} does not open with a comment"));
-        }
-        if path.extension().is_some_and(|e| e == "rt") {
-            bad.extend(long_functions(&text).into_iter().map(|w| format!("{shown}: {w}")));
-            if text.lines().count() > 330 {
-                bad.push(format!("{shown} has {} lines", text.lines().count()));
-            }
-        }
-    }
-    bad
-}
-
-const RULES: &str = "docs/RULES.md";
-const DECISIONS: &str = "docs/DECISIONS.md";
-const ARCHITECTURE: &str = "docs/ARCHITECTURE.md";
-const SCOPE: &str = "docs/papers/01-scope.md";
-const REQUESTS: &str = "docs/papers/02-change-requests.md";
 
 fn read(path: &str) -> String {
     fs::read_to_string(path).unwrap_or_default()
@@ -354,21 +145,62 @@ impl Check {
         }
     }
 
-    fn papers(&mut self) {
-        self.say(RULES, uncovered(&paper(&read(SCOPE)), &spaced(&read(REQUESTS)), &quotes(&read(RULES))));
-        for (number, path) in [("01", SCOPE), ("02", REQUESTS)] {
-            self.say(DECISIONS, misquoted(&read(DECISIONS), number, &read(path)));
+    // The quotes of a text against the paper, where it is at hand, and against what is recorded.
+    fn quotes(&mut self, papers: &Option<Papers>, page: &str, of: &str, quotes: &[&Quote]) {
+        let wrongs = match papers {
+            Some(papers) if page == RULES => papers.uncovered(of, quotes),
+            Some(papers) => papers.misquoted(of, quotes),
+            None => Vec::new(),
+        };
+        let lines = quotes.iter().map(|q| q.text.as_str()).collect::<Vec<_>>().join("\n");
+        let (name, words) = if page == RULES { ("RULES", spaced(&lines)) } else { ("DECISIONS", lines) };
+        let now = (page, of, words.len(), &*sha256::sha256(&words));
+        let line = format!("({name}, {of:?}, {}, {:?}),", now.2, now.3);
+        let advice = match papers {
+            Some(_) if wrongs.is_empty() => format!("They are the paper's own: if nothing else is wrong, record {line}"),
+            Some(_) => "Nor are they the paper's: see above.".to_string(),
+            None => format!("Only after a run with the papers at hand that finds nothing else wrong, record {line}"),
+        };
+        self.say(page, wrongs);
+        if !RECORDED.contains(&now) {
+            self.say(page, vec![format!("its quotes of {of} are not those recorded in tests/rules.rs. {advice}")]);
+        }
+    }
+
+    // Every text that a page quotes, or that is recorded for it. Document 000 is not compared.
+    fn papers(&mut self, papers: &Option<Papers>) {
+        for (page, quotes) in [(RULES, of_rules(&read(RULES))), (DECISIONS, of_decisions(&read(DECISIONS)))] {
+            self.say(page, unread(&read(page), &quotes));
+            let mut texts: Vec<&str> = RECORDED.iter().filter(|line| line.0 == page).map(|line| line.1).collect();
+            texts.extend(quotes.iter().map(|q| q.of.as_str()));
+            texts.sort();
+            texts.dedup();
+            for of in texts {
+                let own: Vec<&Quote> = quotes.iter().filter(|q| q.of == of).collect();
+                if of == "document 01" || of == "document 02" || of.starts_with("card ") {
+                    self.quotes(papers, page, of, &own);
+                } else if of != "document 000" {
+                    self.say(page, own.iter().map(|q| format!("{}: a quote of {of}: «{}»", q.at, q.text)).collect());
+                }
+            }
         }
     }
 }
 
 fn main() {
-    let mut check = Check { tree: tree(), rows: 0, names: 0, bad: layout() };
+    let mut check = Check { tree: tree(), rows: 0, names: 0, bad: layout::layout() };
     check.rules();
     check.decisions();
     check.architecture();
     check.entries();
-    check.papers();
+    if !sha256::is_right() {
+        check.bad.push("tests/rules/sha256.rs does not give the digests of its standard".to_string());
+    }
+    let papers = Papers::at_hand().unwrap_or_else(|why| {
+        check.bad.push(why);
+        None
+    });
+    check.papers(&papers);
     let Check { rows, names, mut bad, .. } = check;
     if rows < 100 || names < 300 {
         bad.push(format!("only {rows} rows and {names} names were found: the pages are not in the form that this reads"));
@@ -376,6 +208,7 @@ fn main() {
     for line in &bad {
         println!("{line}");
     }
-    println!("rules: {rows} rows, {names} names, {} wrong", bad.len());
+    let how = if papers.is_some() { "the papers were compared" } else { "the papers are not at hand: compared by digest" };
+    println!("rules: {rows} rows, {names} names, {} wrong; {how}", bad.len());
     std::process::exit(if bad.is_empty() { 0 } else { 1 });
 }
