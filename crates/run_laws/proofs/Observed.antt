@@ -23,8 +23,11 @@ use Rattle.board_state.specs.declared.Board.{Board}
 use Rattle.board_state.specs.State.{channelAt}
 use Rattle.board_state.specs.Main.{mainValue}
 use Rattle.board.specs.Answers.{BoardAnswer}
-use Rattle.board.specs.Calls.{noChannel, setpointsFit, readbacksFit, readAnswerAt, writeAnswerAt}
-use Rattle.board.specs.Calls as calls
+use Rattle.board_state.specs.Lending.{noChannel, setpointsFit, readbacksFit}
+use Rattle.board_registers.specs.Calls.{readAnswerAt, writeAnswerAt}
+use Rattle.board.specs.Calls as board
+use Rattle.board_channels.specs.Calls as channels
+use Rattle.board_registers.specs.Calls as registers
 use Rattle.isolation.specs.Calls.{Call, writeRegister, readRegister, writeSetpoint, arm, disarm, reply, retired, retiredLength, tick, event, changeUser, interruptLevel, Lent, first, second, answer}
 use Rattle.isolation.specs.Feeding.{only, answerFor, shared, sharedRead, observeWrite, observeRead, observe}
 use Rattle.channel.proofs.Cases.{by-test}
@@ -62,22 +65,22 @@ module _ (b : Board) where
   read-at (channel d o) = unless-quiet (readRefusal (channelAccess o)) (ans.value (chn.readValue (channelAt b d) o)) (record { quiet = refl })
   read-at nothing = record { quiet = refl }
 
-  setpoint-quiet : (k d u f i : ℕ) → Quiet (calls.setpointAnswer b k d u f i)
-  unfolding calls.setpointAnswer chn.setpointAnswer
+  setpoint-quiet : (k d u f i : ℕ) → Quiet (channels.setpointAnswer b k d u f i)
+  unfolding channels.setpointAnswer chn.setpointAnswer
   setpoint-quiet k d u f i =
       by-test Quiet (setpointsFit b k)
       (λ t. by-test Quiet (noChannel d) (λ t. record { quiet = refl }) (λ t. unless-quiet (chn.setpointRefusal (channelAt b d) (b .n) u f i) ans.done (record { quiet = refl })))
       (λ t. record { quiet = refl })
 
-  reply-quiet : (k d f : ℕ) → Quiet (calls.replyAnswer b k d f)
-  unfolding calls.replyAnswer replyAnswer
+  reply-quiet : (k d f : ℕ) → Quiet (channels.replyAnswer b k d f)
+  unfolding channels.replyAnswer replyAnswer
   reply-quiet k d f =
       by-test Quiet (readbacksFit b k)
       (λ t. by-test Quiet (noChannel d) (λ t. record { quiet = refl }) (λ t. reading-quiet (read f) (channelAt b d) (b .m)))
       (λ t. record { quiet = refl })
 
-arm-quiet : (d : ℕ) → Quiet (calls.armAnswer d)
-unfolding calls.armAnswer
+arm-quiet : (d : ℕ) → Quiet (channels.armAnswer d)
+unfolding channels.armAnswer
 arm-quiet d = by-test Quiet (noChannel d) (λ t. record { quiet = refl }) (λ t. record { quiet = refl })
 
 -- ---- What is observed of them
@@ -105,7 +108,7 @@ observed-read c (channel d o) a q = only-quiet (eqb d c) a q
 observed-read c nothing a q = refl
 
 pub frames-observed : (c : ℕ) (b : Board) (x : Call) (l : Lent) → howMany isFrame (observe c x (answer b x l)) ≡ howMany (sends c) (answer b x l ∷ [])
-unfolding howMany answer calls.writeAnswer calls.readAnswer calls.retiredAnswer calls.retiredLength calls.tickBoardAnswer calls.eventAnswer calls.userAnswer
+unfolding howMany answer registers.writeAnswer registers.readAnswer channels.retiredAnswer channels.retiredLength board.tickBoardAnswer board.eventAnswer board.userAnswer
 frames-observed c b (writeRegister a v) l =
     observed-write c (named a) _ (by-test Quiet (readbacksFit b (length (first l))) (λ t. write-at b (named a) v) (λ t. record { quiet = refl }))
 frames-observed c b (readRegister a) l = observed-read c (named a) _ (read-at b (named a))
@@ -113,8 +116,8 @@ frames-observed c b (writeSetpoint d u f i y) l = only-quiet (eqb d c) _ (setpoi
 frames-observed c b (arm d) l = only-quiet (eqb d c) _ (arm-quiet d)
 frames-observed c b (disarm d) l = only-quiet (eqb d c) _ (arm-quiet d)
 frames-observed c b (reply d y) l = only-quiet (eqb d c) _ (reply-quiet b (length (first l)) d y)
-frames-observed c b (retired d) l = only-quiet (eqb d c) _ (unless-quiet (calls.retiredRefusal b d (length (first l)) (length (second l))) (ans.part (calls.retiredWords b d (first l) (second l))) (record { quiet = refl }))
-frames-observed c b (retiredLength d) l = only-quiet (eqb d c) _ (unless-quiet (calls.retiredRefusal b d (length (first l)) (length (second l))) (ans.partLength (length (calls.retiredWords b d (first l) (second l)))) (record { quiet = refl }))
+frames-observed c b (retired d) l = only-quiet (eqb d c) _ (unless-quiet (channels.retiredRefusal b d (length (first l)) (length (second l))) (ans.part (channels.retiredWords b d (first l) (second l))) (record { quiet = refl }))
+frames-observed c b (retiredLength d) l = only-quiet (eqb d c) _ (unless-quiet (channels.retiredRefusal b d (length (first l)) (length (second l))) (ans.partLength (length (channels.retiredWords b d (first l) (second l)))) (record { quiet = refl }))
 frames-observed c b tick l =
     by-test (λ (s : BoardAnswer). howMany isFrame (answerFor c s ∷ []) ≡ howMany (sends c) (s ∷ []))
     (setpointsFit b (length (first l))) (λ t. refl) (λ t. refl)
