@@ -1,6 +1,6 @@
 // Register write and read on the board: the address names a channel, Main, or nothing. A crate of its own to keep each check short.
-use board::Written;
 use board_state::Board;
+use board_state::Written;
 use channel::Outcome;
 use channel::Shown;
 use refusal::Refusal;
@@ -14,7 +14,8 @@ ghost use Rattle.channel.specs.Calls.{writtenOf, writtenAnswer, writtenWords};
 ghost use Rattle.register_map.specs.Addresses.{main, channel};
 ghost use Rattle.board_state.specs.State.{channelAt, withChannelAt};
 ghost use Rattle.board_state.specs.Parts.{own, withOwn};
-ghost use Rattle.board.specs.Calls.{readbackSize, writeBoardAt, writeAnswerAt, writeBoard, writeAnswer, writeWords, readBoardAt, readAnswerAt, readBoard, readAnswer};
+ghost use Rattle.board_state.specs.Lending.{readbackSize};
+ghost use Rattle.board_registers.specs.Calls.{writeBoardAt, writeAnswerAt, writeBoard, writeAnswer, writeWords, readBoardAt, readAnswerAt, readBoard, readAnswer};
 
 pub struct Read {
     pub board: Board,
@@ -27,14 +28,14 @@ fn write_channel(b: Board, readbacks: &mut [u32], number: u8, offset: u16, value
     ensures { λ r. ⌜ (r .board ≡ withChannelAt b number (writtenOf (channelAt b number) offset value)) × (outcomeOf (r .outcome) ≡ writtenAnswer offset value) × (now (readbacks .exit) ≡ withOwn (now (readbacks .entry)) (readbackSize b) number (writtenWords (channelAt b number) (own (now (readbacks .entry)) (readbackSize b) number) (b .m) offset value)) ⌝ }
 {
     let m = b.m;
-    let c = b.channel(number);
-    let a = board_state::part_start(number, m, 2);
-    let e = a + m as usize * 2;
-    let w = channel::write_register(c, &mut readbacks[a..e], m, offset, value);
-    let x = w.channel;
-    let outcome = w.outcome;
+    let named = b.channel(number);
+    let start = board_state::part_start(number, m, 2);
+    let end = start + m as usize * 2;
+    let written = channel::write_register(named, &mut readbacks[start..end], m, offset, value);
+    let changed = written.channel;
+    let outcome = written.outcome;
     Written {
-        board: b.with_channel(number, x),
+        board: b.with_channel(number, changed),
         outcome: outcome,
     }
 }
@@ -43,15 +44,15 @@ fn write_channel(b: Board, readbacks: &mut [u32], number: u8, offset: u16, value
 fn write_main(b: Board, offset: u16, value: u16) -> Written
     ensures { λ r. ⌜ (r .board ≡ writeBoardAt (main offset) b value) × (outcomeOf (r .outcome) ≡ writeAnswerAt (main offset) value) ⌝ }
 {
-    let v = register_map::write_verdict(register_map::main_access(offset));
-    match v {
+    let verdict = register_map::write_verdict(register_map::main_access(offset));
+    match verdict {
         Verdict::Allowed => Written {
             board: b.main_written(offset, value),
             outcome: Outcome::Done,
         },
-        Verdict::Refused(k) => Written {
+        Verdict::Refused(reason) => Written {
             board: b,
-            outcome: Outcome::Refused(k),
+            outcome: Outcome::Refused(reason),
         },
     }
 }
@@ -80,15 +81,15 @@ pub fn write_register(b: Board, readbacks: &mut [u32], address: u32, value: u16)
 fn read_main(b: Board, offset: u16) -> Read
     ensures { λ r. ⌜ (r .board ≡ readBoardAt (main offset) b) × (shownOf (r .shown) ≡ readAnswerAt (main offset) b) ⌝ }
 {
-    let v = register_map::read_verdict(register_map::main_access(offset));
-    match v {
+    let verdict = register_map::read_verdict(register_map::main_access(offset));
+    match verdict {
         Verdict::Allowed => Read {
             board: b.main_read(offset),
             shown: Shown::Value(b.main_value(offset)),
         },
-        Verdict::Refused(k) => Read {
+        Verdict::Refused(reason) => Read {
             board: b,
-            shown: Shown::Refused(k),
+            shown: Shown::Refused(reason),
         },
     }
 }
@@ -97,11 +98,11 @@ fn read_main(b: Board, offset: u16) -> Read
 fn read_channel(b: Board, number: u8, offset: u16) -> Read
     ensures { λ r. ⌜ (r .board ≡ readBoardAt (channel number offset) b) × (shownOf (r .shown) ≡ readAnswerAt (channel number offset) b) ⌝ }
 {
-    let w = channel::read_register(b.channel(number), offset);
-    let x = w.channel;
-    let shown = w.shown;
+    let read = channel::read_register(b.channel(number), offset);
+    let changed = read.channel;
+    let shown = read.shown;
     Read {
-        board: b.with_channel(number, x),
+        board: b.with_channel(number, changed),
         shown: shown,
     }
 }

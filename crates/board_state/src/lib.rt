@@ -1,4 +1,5 @@
 // The board's state: depths, current user, Main registers and four channels. It holds no rule of what a channel does.
+use channel::Outcome;
 use channel_core::Channel;
 use status::weigh;
 ghost use mathlib.Core.Path.{_≡_};
@@ -25,6 +26,12 @@ pub struct Board {
     pub channels: [Channel; 4],
 }
 
+// The board after a call, and its answer.
+pub struct Written {
+    pub board: Board,
+    pub outcome: Outcome,
+}
+
 // Where a channel's part of a memory starts: the parts of channels 1 to 4 lie in a row, each of so many words to a unit of depth.
 pub fn part_start(number: u8, depth: u32, words: u8) -> usize
     ensures { λ r. ⌜ r ≡ partStart number (depth * words) ⌝ }
@@ -41,29 +48,29 @@ fn main_word(user: u8, one: bool, two: bool, three: bool, four: bool, event: boo
 }
 
 // A channel's bit in a Main status.
-fn main_bit(c: Channel, polling: bool) -> bool
-    ensures { λ r. ⌜ r ≡ mainBit c polling ⌝ }
+fn main_bit(named: Channel, polling: bool) -> bool
+    ensures { λ r. ⌜ r ≡ mainBit named polling ⌝ }
 {
-    channel::take_main(c, polling).bit
+    channel::take_main(named, polling).bit
 }
 
-fn main_stored(x: Main, offset: u16, value: u16) -> Main
-    ensures { λ r. ⌜ r ≡ mainStored x offset value ⌝ }
+fn main_stored(main: Main, offset: u16, value: u16) -> Main
+    ensures { λ r. ⌜ r ≡ mainStored main offset value ⌝ }
 {
-    let mut y = x;
+    let mut stored = main;
     if offset == 0x22 {
-        y.level = (value % 8) as u8;
-        return y;
+        stored.level = (value % 8) as u8;
+        return stored;
     }
     if offset == 0x24 {
-        y.vector = value;
-        return y;
+        stored.vector = value;
+        return stored;
     }
     if offset == 0x26 {
-        y.enable = status::kept_enable(value % 256);
-        return y;
+        stored.enable = status::kept_enable(value % 256);
+        return stored;
     }
-    y
+    stored
 }
 
 impl Board {
@@ -71,7 +78,7 @@ impl Board {
     pub fn opened(n: u32, m: u32) -> Board
         ensures { λ r. ⌜ r ≡ opened n m ⌝ }
     {
-        let c = Channel::opened();
+        let channel = Channel::opened();
         Board {
             n: n,
             m: m,
@@ -83,7 +90,7 @@ impl Board {
                 interrupt: false,
                 polling: false,
             },
-            channels: [c, c, c, c],
+            channels: [channel, channel, channel, channel],
         }
     }
 
@@ -91,21 +98,21 @@ impl Board {
     pub fn channel(self, number: u8) -> Channel
         ensures { λ r. ⌜ r ≡ channelAt self number ⌝ }
     {
-        let i = registers::zero_based(number) as usize;
-        if i < 4 {
-            return self.channels[i];
+        let index = registers::zero_based(number) as usize;
+        if index < 4 {
+            return self.channels[index];
         }
         Channel::opened()
     }
 
     // The board with channel 1 to 4 replaced.
-    pub fn with_channel(self, number: u8, c: Channel) -> Board
-        ensures { λ r. ⌜ r ≡ withChannelAt self number c ⌝ }
+    pub fn with_channel(self, number: u8, channel: Channel) -> Board
+        ensures { λ r. ⌜ r ≡ withChannelAt self number channel ⌝ }
     {
-        let i = registers::zero_based(number) as usize;
+        let index = registers::zero_based(number) as usize;
         let mut b = self;
-        if i < 4 {
-            b.channels[i] = c;
+        if index < 4 {
+            b.channels[index] = channel;
         }
         b
     }
@@ -123,10 +130,10 @@ impl Board {
         ensures { λ r. ⌜ r ≡ eventCame self ⌝ }
     {
         let mut b = self;
-        let mut x = b.main;
-        x.interrupt = true;
-        x.polling = true;
-        b.main = x;
+        let mut main = b.main;
+        main.interrupt = true;
+        main.polling = true;
+        b.main = main;
         b
     }
 
@@ -134,24 +141,24 @@ impl Board {
     fn main_status(self, polling: bool) -> u16
         ensures { λ r. ⌜ r ≡ mainStatus self polling ⌝ }
     {
-        let x = self.main;
+        let main = self.main;
         let one = main_bit(self.channel(1), polling);
         let two = main_bit(self.channel(2), polling);
         let three = main_bit(self.channel(3), polling);
         let four = main_bit(self.channel(4), polling);
         if polling {
-            return main_word(self.user, one, two, three, four, x.polling);
+            return main_word(self.user, one, two, three, four, main.polling);
         }
-        main_word(self.user, one, two, three, four, x.interrupt)
+        main_word(self.user, one, two, three, four, main.interrupt)
     }
 
     // A channel's bit of a Main status cleared.
     fn taken(self, number: u8, polling: bool) -> Board
         ensures { λ r. ⌜ r ≡ takenAt self number polling ⌝ }
     {
-        let t = channel::take_main(self.channel(number), polling);
-        let c = t.channel;
-        self.with_channel(number, c)
+        let taken = channel::take_main(self.channel(number), polling);
+        let changed = taken.channel;
+        self.with_channel(number, changed)
     }
 
     // A Main status read: D7-D3 of that copy clear.
@@ -162,14 +169,14 @@ impl Board {
             .taken(2, polling)
             .taken(3, polling)
             .taken(4, polling);
-        let mut x = b.main;
+        let mut main = b.main;
         if polling {
-            x.polling = false;
-            b.main = x;
+            main.polling = false;
+            b.main = main;
             return b;
         }
-        x.interrupt = false;
-        b.main = x;
+        main.interrupt = false;
+        b.main = main;
         b
     }
 
@@ -178,8 +185,8 @@ impl Board {
         ensures { λ r. ⌜ r ≡ mainWritten self offset value ⌝ }
     {
         let mut b = self;
-        let x = b.main;
-        b.main = main_stored(x, offset, value);
+        let main = b.main;
+        b.main = main_stored(main, offset, value);
         b
     }
 
@@ -187,15 +194,15 @@ impl Board {
     pub fn main_value(self, offset: u16) -> u16
         ensures { λ r. ⌜ r ≡ mainValue self offset ⌝ }
     {
-        let x = self.main;
+        let main = self.main;
         if offset == 0x22 {
-            return x.level as u16;
+            return main.level as u16;
         }
         if offset == 0x24 {
-            return x.vector;
+            return main.vector;
         }
         if offset == 0x26 {
-            return x.enable;
+            return main.enable;
         }
         self.main_status(offset == 0x2a)
     }
@@ -218,8 +225,8 @@ impl Board {
         ensures { λ r. ⌜ r ≡ enabledBit (channelAt self number) (self .main .enable) bit ⌝ }
     {
         if main_bit(self.channel(number), false) {
-            let x = self.main;
-            return status::is_set(x.enable, bit);
+            let main = self.main;
+            return status::is_set(main.enable, bit);
         }
         false
     }
@@ -228,18 +235,18 @@ impl Board {
     pub fn interrupt_level(self) -> u8
         ensures { λ r. ⌜ r ≡ levelOf self ⌝ }
     {
-        let x = self.main;
+        let main = self.main;
         if self.interrupts(1, 4) {
-            return x.level;
+            return main.level;
         }
         if self.interrupts(2, 5) {
-            return x.level;
+            return main.level;
         }
         if self.interrupts(3, 6) {
-            return x.level;
+            return main.level;
         }
         if self.interrupts(4, 7) {
-            return x.level;
+            return main.level;
         }
         0
     }

@@ -24,7 +24,7 @@ pub struct Advanced {
 
 // A channel's ticks, over its part of the setpoints. Handed the channel alone: to hand on the board would take longer than the ticks.
 fn ticks_channel(
-    c: Channel,
+    channel: Channel,
     setpoints: &[u32],
     number: u8,
     n: u32,
@@ -33,16 +33,16 @@ fn ticks_channel(
     captured: &mut [u64],
 ) -> channel_ticks::Advanced
     requires { ⌜ (number ≤ 4) × (length (now setpoints) ≡ n * 64) ⌝ }
-    ensures { λ r. ⌜ (r .channel ≡ ticksOf c (own (now (setpoints .entry)) (n * 16) number) n user count) × (r .frames ≡ framesIn c (own (now (setpoints .entry)) (n * 16) number) n user count) × (now (captured .exit) ≡ framesAt c (own (now (setpoints .entry)) (n * 16) number) n user count (now (captured .entry))) ⌝ }
+    ensures { λ r. ⌜ (r .channel ≡ ticksOf channel (own (now (setpoints .entry)) (n * 16) number) n user count) × (r .frames ≡ framesIn channel (own (now (setpoints .entry)) (n * 16) number) n user count) × (now (captured .exit) ≡ framesAt channel (own (now (setpoints .entry)) (n * 16) number) n user count (now (captured .entry))) ⌝ }
 {
-    let a = board_state::part_start(number, n, 16);
-    let e = a + n as usize * 16;
-    channel_ticks::ticks(c, &setpoints[a..e], n, user, count, captured)
+    let start = board_state::part_start(number, n, 16);
+    let end = start + n as usize * 16;
+    channel_ticks::ticks(channel, &setpoints[start..end], n, user, count, captured)
 }
 
 // The same, with no frame kept.
 fn count_channel(
-    c: Channel,
+    channel: Channel,
     setpoints: &[u32],
     number: u8,
     n: u32,
@@ -50,10 +50,10 @@ fn count_channel(
     count: u32,
 ) -> channel_ticks::Advanced
     requires { ⌜ (number ≤ 4) × (length (now setpoints) ≡ n * 64) ⌝ }
-    ensures { λ r. ⌜ (r .channel ≡ ticksOf c (own (now (setpoints .entry)) (n * 16) number) n user count) × (r .frames ≡ framesIn c (own (now (setpoints .entry)) (n * 16) number) n user count) ⌝ }
+    ensures { λ r. ⌜ (r .channel ≡ ticksOf channel (own (now (setpoints .entry)) (n * 16) number) n user count) × (r .frames ≡ framesIn channel (own (now (setpoints .entry)) (n * 16) number) n user count) ⌝ }
 {
     let mut none = [0u64; 0];
-    ticks_channel(c, setpoints, number, n, user, count, &mut none)
+    ticks_channel(channel, setpoints, number, n, user, count, &mut none)
 }
 
 // So many ticks.
@@ -72,24 +72,24 @@ pub fn ticks(b: Board, setpoints: &[u32], count: u32) -> Advanced
     }
     let n = b.n;
     let user = b.user;
-    let one = count_channel(b.channel(1), setpoints, 1, n, user, count);
-    let two = count_channel(b.channel(2), setpoints, 2, n, user, count);
-    let three = count_channel(b.channel(3), setpoints, 3, n, user, count);
-    let four = count_channel(b.channel(4), setpoints, 4, n, user, count);
-    let first = one.channel;
-    let second = two.channel;
-    let third = three.channel;
-    let fourth = four.channel;
+    let first = count_channel(b.channel(1), setpoints, 1, n, user, count);
+    let second = count_channel(b.channel(2), setpoints, 2, n, user, count);
+    let third = count_channel(b.channel(3), setpoints, 3, n, user, count);
+    let fourth = count_channel(b.channel(4), setpoints, 4, n, user, count);
+    let first_channel = first.channel;
+    let second_channel = second.channel;
+    let third_channel = third.channel;
+    let fourth_channel = fourth.channel;
     Advanced {
-        board: b.with_channel(1, first)
-            .with_channel(2, second)
-            .with_channel(3, third)
-            .with_channel(4, fourth),
+        board: b.with_channel(1, first_channel)
+            .with_channel(2, second_channel)
+            .with_channel(3, third_channel)
+            .with_channel(4, fourth_channel),
         refused: 0,
-        first: one.frames,
-        second: two.frames,
-        third: three.frames,
-        fourth: four.frames,
+        first: first.frames,
+        second: second.frames,
+        third: third.frames,
+        fourth: fourth.frames,
     }
 }
 
@@ -103,16 +103,24 @@ pub fn frames(b: Board, setpoints: &[u32], number: u32, count: u32, captured: &m
     if setpoints.len() != b.n as usize * 64 {
         return;
     }
-    let k = number as u8;
-    ticks_channel(b.channel(k), setpoints, k, b.n, b.user, count, captured);
+    let channel_number = number as u8;
+    ticks_channel(
+        b.channel(channel_number),
+        setpoints,
+        channel_number,
+        b.n,
+        b.user,
+        count,
+        captured,
+    );
 }
 
 // How many of the next ticks only count down, at the least.
 fn channel_quiet(b: Board, number: u8) -> u64
     ensures { λ r. ⌜ r ≡ Quiet·quietTicks (channelAt b number .sequencer) ⌝ }
 {
-    let c = b.channel(number);
-    let sequencer = c.sequencer;
+    let named = b.channel(number);
+    let sequencer = named.sequencer;
     quiet::quiet_ticks(sequencer)
 }
 

@@ -15,7 +15,7 @@ use Rattle.channel_core.specs.Answers.{Answer, isRefusal}
 use Rattle.channel.specs.Calls.{unless}
 use Rattle.board_state.specs.declared.Board.{Board}
 use Rattle.board_state.specs.State.{channelAt, withChannelAt, withChannels}
-use Rattle.board.specs.Calls.{noChannel}
+use Rattle.board_state.specs.Lending.{noChannel}
 use Rattle.register_map.proofs.Laws.{named-channel}
 use Rattle.channel.proofs.Cases.{clash}
 use Rattle.channel.proofs.Ranges.{inside}

@@ -20,8 +20,11 @@ use Rattle.channel.proofs.Cases.{clash, either}
 use Rattle.board_state.specs.State.{channelAt}
 use Rattle.board_state.specs.Main.{mainValue}
 use Rattle.board.specs.Answers.{BoardAnswer, one, each, refuses}
-use Rattle.board.specs.Calls.{sizeMismatch, setpointsFit, readbacksFit, tickFrame}
-use Rattle.board.specs.Calls as calls
+use Rattle.board_state.specs.Lending.{sizeMismatch, setpointsFit, readbacksFit}
+use Rattle.board.specs.Calls.{tickFrame}
+use Rattle.board.specs.Calls as board
+use Rattle.board_channels.specs.Calls as channels
+use Rattle.board_registers.specs.Calls as registers
 use Rattle.board.specs.Worlds.{World}
 use Rattle.isolation.specs.Calls.{writeRegister, readRegister, writeSetpoint, reply, query, tick, event, changeUser, Lent, first, second, refused, ownBuffers, given}
 use Rattle.isolation.specs.Calls as wld
@@ -56,43 +59,43 @@ module _ (w : World) (c : ℕ) (h : Number c) where
 
   pub observe-write : (a o v : ℕ) (l : Lent) → named a ≡ channel c o
       → answerFor c (wld.answer (w .board) (writeRegister a v) l) ≡ response (view c w) (to.writeRegister (length (first l)) o v)
-  unfolding wld.answer calls.writeAnswer
+  unfolding wld.answer registers.writeAnswer
   observe-write a o v l e = rw e (sym (response-write (view c w) (length (first l)) o v))
 
   pub observe-read : (a o : ℕ) (l : Lent) → named a ≡ channel c o
       → answerFor c (wld.answer (w .board) (readRegister a) l) ≡ response (view c w) (to.readRegister o)
-  unfolding wld.answer calls.readAnswer chn.readAnswer response refusalOf answer
+  unfolding wld.answer registers.readAnswer chn.readAnswer response refusalOf answer
   observe-read a o l e = rw e
 
   pub observe-setpoint : (u f i x : ℕ) (l : Lent)
       → answerFor c (wld.answer (w .board) (writeSetpoint c u f i x) l) ≡ response (view c w) (to.writeSetpoint (length (first l)) u f i x)
-  unfolding wld.answer calls.setpointAnswer
+  unfolding wld.answer channels.setpointAnswer
   observe-setpoint u f i x l = rw (in-range c h) (sym (response-setpoint (view c w) (length (first l)) u f i x))
 
   -- arm and disarm
-  pub arm-done : calls.armAnswer c ≡ ans.done
-  unfolding calls.armAnswer
+  pub arm-done : channels.armAnswer c ≡ ans.done
+  unfolding channels.armAnswer
   arm-done = rw (in-range c h)
 
   pub observe-reply : (f : ℕ) (l : Lent) → answerFor c (wld.answer (w .board) (reply c f) l) ≡ response (view c w) (to.reply (length (first l)) f)
-  unfolding wld.answer calls.replyAnswer
+  unfolding wld.answer channels.replyAnswer
   observe-reply f l = rw (in-range c h) (sym (response-reply (view c w) (length (first l)) f))
 
   -- ---- Shared calls, whatever they are lent
 
   pub observe-event : (x : ℕ) (l : Lent)
       → shared (answerFor c (wld.answer (w .board) (event x) l)) ≡ response (view c w) (to.event (length (first l)) x)
-  unfolding wld.answer calls.eventAnswer
+  unfolding wld.answer board.eventAnswer
   observe-event x l =
       shared-fit (readbacksFit (w .board) (length (first l))) ans.done refl ∙ sym (response-event (view c w) (length (first l)) x)
 
   pub observe-user : (u : ℕ) (l : Lent) → shared (answerFor c (wld.answer (w .board) (changeUser u) l)) ≡ response (view c w) (to.changeUser u)
-  unfolding wld.answer calls.userAnswer response refusalOf answer
+  unfolding wld.answer board.userAnswer response refusalOf answer
   observe-user u l = shared-done (userRefusal u)
 
   pub observe-write-main : (a o v : ℕ) (l : Lent) → named a ≡ main o
       → shared (answerFor c (wld.answer (w .board) (writeRegister a v) l)) ≡ response (view c w) (to.writeMain (length (first l)) o v)
-  unfolding wld.answer calls.writeAnswer
+  unfolding wld.answer registers.writeAnswer
   observe-write-main a o v l e =
       rw e
       (shared-fit (readbacksFit (w .board) (length (first l))) (unless (writeRefusal (mainAccess o)) ans.done)
@@ -112,7 +115,7 @@ module _ (w : World) (c : ℕ) (h : Number c) where
 
   pub observe-read-main : (a o : ℕ) (l : Lent) → named a ≡ main o
       → sharedRead c o (answerFor c (wld.answer (w .board) (readRegister a) l)) ≡ response (view c w) (to.readMain o)
-  unfolding wld.answer calls.readAnswer response refusalOf answer
+  unfolding wld.answer registers.readAnswer response refusalOf answer
   observe-read-main a o l e = rw e (go (eqb (readRefusal (mainAccess o)) 0))
     where
       go : (t : Bool)
@@ -126,14 +129,14 @@ module _ (w : World) (c : ℕ) (h : Number c) where
   -- the answer of the retired call or of its twin, which is of the part what `tell` tells: on the board, and by the one-channel definition
   abbrev onBoard : (List ℕ → Answer) → Lent → Answer
   onBoard tell l =
-      unless (calls.retiredRefusal (w .board) c (length (first l)) (length (second l))) (tell (calls.retiredWords (w .board) c (first l) (second l)))
+      unless (channels.retiredRefusal (w .board) c (length (first l)) (length (second l))) (tell (channels.retiredWords (w .board) c (first l) (second l)))
 
   abbrev byItself : (List ℕ → Answer) → Lent → Answer
   byItself tell l = unless (chn.retiredRefusal (w .board .m) (length (first l)) (length (second l))) (tell (retiredOf (view c w)))
 
   retired-same : (tell : List ℕ → Answer) → ((s : List ℕ) → isRefusal (tell s) ≡ false) → (l : Lent)
       → ((isRefusal (onBoard tell l) ≡ true) ⊎ (l ≡ ownBuffers w c)) → onBoard tell l ≡ byItself tell l
-  unfolding calls.retiredWords chn.retiredWords retiredOf
+  unfolding channels.retiredWords chn.retiredWords retiredOf
   retired-same tell plain l f = go (eqb (chn.retiredRefusal (w .board .m) (length (first l)) (length (second l))) 0) refl f
     where
       go : (t : Bool) → eqb (chn.retiredRefusal (w .board .m) (length (first l)) (length (second l))) 0 ≡ t
@@ -144,13 +147,13 @@ module _ (w : World) (c : ℕ) (h : Number c) where
 
   pub observe-query : (q : Query) (l : Lent) → ((refused (w .board) (query c q) l ≡ true) ⊎ (l ≡ given w (query c q)))
       → answerFor c (wld.answer (w .board) (query c q) l) ≡ response (view c w) (to.query q (length (first l)) (length (second l)))
-  unfolding wld.answer calls.retiredAnswer calls.retiredLength response refusalOf answer
+  unfolding wld.answer channels.retiredAnswer channels.retiredLength response refusalOf answer
   observe-query to.retired l f = retired-same ans.part (λ s. refl) l f
   observe-query to.retiredLength l f = retired-same (λ s. ans.partLength (length s)) (λ s. refl) l f
 
   pub observe-tick : Good w → (l : Lent) → ((refused (w .board) tick l ≡ true) ⊎ (l ≡ given w tick))
       → answerFor c (wld.answer (w .board) tick l) ≡ response (view c w) (to.tick (length (first l)))
-  unfolding wld.answer calls.tickBoardAnswer tickFrame
+  unfolding wld.answer board.tickBoardAnswer tickFrame
   observe-tick g l (inl r) = go (setpointsFit (w .board) (length (first l))) refl
     where
       go : (t : Bool) → setpointsFit (w .board) (length (first l)) ≡ t

@@ -18,8 +18,10 @@ use Rattle.histories.proofs.Lengths.{written-length, setpoint-length, reply-len
 use Rattle.board_state.specs.declared.Board.{Board}
 use Rattle.board_state.specs.State.{channelAt}
 use Rattle.board_state.specs.Parts.{own}
-use Rattle.board.specs.Calls.{noChannel, readbacksFit, writeBoardAt, readBoardAt}
-use Rattle.board.specs.Calls as calls
+use Rattle.board_state.specs.Lending.{noChannel, readbacksFit}
+use Rattle.board_registers.specs.Calls.{writeBoardAt, readBoardAt}
+use Rattle.board_channels.specs.Calls as channels
+use Rattle.board_registers.specs.Calls as registers
 use Rattle.board.specs.Worlds.{World}
 use Rattle.isolation.specs.Calls.{Call, writeRegister, readRegister, writeSetpoint, arm, disarm, reply, query, tick, event, changeUser, interruptLevel, first, second, withBoard, after, wordsAfter, refused, given, step}
 use Rattle.isolation.specs.Calls as wld
@@ -33,7 +35,7 @@ use Rattle.isolation.proofs.Worlds.{either, step-refused, step-given, p
 
 module _ (w : World) (c : ℕ) (h : Number c) (d : ℕ) (ne : c ≡ d → ⊥) where
   pub other-write : (a o v : ℕ) → named a ≡ channel d o → view c (plain w (writeRegister a v)) ≡ view c w
-  unfolding after wordsAfter calls.writeBoard
+  unfolding after wordsAfter registers.writeBoard
   other-write a o v e =
       ap (λ (n : Named). view c (wrote (cond (readbacksFit (w .board) (length (w .readbacks))) (writeBoardAt n (w .board) v) (w .board)))) e
       ∙ by-test (λ (b : Board). view c (wrote b) ≡ view c w) (readbacksFit (w .board) (length (w .readbacks)))
@@ -41,9 +43,9 @@ module _ (w : World) (c : ℕ) (h : Number c) (d : ℕ) (ne : c ≡ d → ⊥) w
       (λ t. ap (to.withReadbacks (view c w)) words)
     where
       wrote : Board → World
-      wrote b = wld.withReadbacks (withBoard w b) (calls.writeWords (w .board) (w .readbacks) a v)
+      wrote b = wld.withReadbacks (withBoard w b) (registers.writeWords (w .board) (w .readbacks) a v)
 
-      words : own (calls.writeWords (w .board) (w .readbacks) a v) (w .board .m * 2) c ≡ own (w .readbacks) (w .board .m * 2) c
+      words : own (registers.writeWords (w .board) (w .readbacks) a v) (w .board .m * 2) c ≡ own (w .readbacks) (w .board .m * 2) c
       words =
           ap (λ (r : List ℕ). own r (w .board .m * 2) c) (writes-over (w .board) (w .readbacks) d a o v e (named-number a d o e))
           ∙ over-theirs (w .readbacks) (w .board .m * 8) (w .board .m * 2) d
@@ -51,7 +53,7 @@ module _ (w : World) (c : ℕ) (h : Number c) (d : ℕ) (ne : c ≡ d → ⊥) w
           (λ p. written-length (channelAt (w .board) d) p (w .board .m) o v) c h ne
 
   pub other-read : (a o : ℕ) → named a ≡ channel d o → view c (plain w (readRegister a)) ≡ view c w
-  unfolding after calls.readBoard
+  unfolding after registers.readBoard
   other-read a o e =
       ap (λ (n : Named). view c (withBoard w (readBoardAt n (w .board)))) e
       ∙ ap (withChannel (view c w)) (withChannelAt-other (w .board) d c _ (named-number a d o e) h ne)
@@ -65,14 +67,14 @@ module _ (w : World) (c : ℕ) (h : Number c) (d : ℕ) (ne : c ≡ d → ⊥) w
       (λ (p : List ℕ). chn.setpointWords (channelAt (w .board) d) p (w .board .n) u f i x) (parted-sets (w .board))
       (λ p. setpoint-length (channelAt (w .board) d) p (w .board .n) u f i x) c h ne)
 
-  pub other-armed : (on : Bool) → view c (withBoard w (calls.setArmed (w .board) d on)) ≡ view c w
-  unfolding calls.setArmed
+  pub other-armed : (on : Bool) → view c (withBoard w (channels.setArmed (w .board) d on)) ≡ view c w
+  unfolding channels.setArmed
   other-armed on =
       by-test (λ (b : Board). view c (withBoard w b) ≡ view c w) (noChannel d) (λ t. refl)
       (λ t. ap (withChannel (view c w)) (withChannelAt-other (w .board) d c _ (range-in d t) h ne))
 
   pub other-reply : (f : ℕ) → view c (plain w (reply d f)) ≡ view c w
-  unfolding after wordsAfter calls.replyBoard
+  unfolding after wordsAfter channels.replyBoard
   other-reply f =
       by-test Stays (readbacksFit (w .board) (length (w .readbacks)))
       (λ t. by-test Stays (noChannel d) (λ q. ap (to.withReadbacks (view c w)) words)
@@ -80,9 +82,9 @@ module _ (w : World) (c : ℕ) (h : Number c) (d : ℕ) (ne : c ≡ d → ⊥) w
       (λ t. ap (to.withReadbacks (view c w)) words)
     where
       Stays : Board → Type 0
-      Stays b = view c (wld.withReadbacks (withBoard w b) (calls.replyWords (w .board) (w .readbacks) d f)) ≡ view c w
+      Stays b = view c (wld.withReadbacks (withBoard w b) (channels.replyWords (w .board) (w .readbacks) d f)) ≡ view c w
 
-      words : own (calls.replyWords (w .board) (w .readbacks) d f) (w .board .m * 2) c ≡ own (w .readbacks) (w .board .m * 2) c
+      words : own (channels.replyWords (w .board) (w .readbacks) d f) (w .board .m * 2) c ≡ own (w .readbacks) (w .board .m * 2) c
       words =
           ap (λ (r : List ℕ). own r (w .board .m * 2) c) (replies-over (w .board) (w .readbacks) d f)
           ∙ over-theirs (w .readbacks) (w .board .m * 8) (w .board .m * 2) d
@@ -92,7 +94,7 @@ module _ (w : World) (c : ℕ) (h : Number c) (d : ℕ) (ne : c ≡ d → ⊥) w
 -- a register call that names nothing
 module _ (w : World) (c : ℕ) where
   pub nothing-write : (a v : ℕ) → named a ≡ nothing → view c (plain w (writeRegister a v)) ≡ view c w
-  unfolding after wordsAfter calls.writeBoard calls.writeWords
+  unfolding after wordsAfter registers.writeBoard registers.writeWords
   nothing-write a v e = rw e (go (readbacksFit (w .board) (length (w .readbacks))))
     where
       go : (t : Bool)
@@ -101,7 +103,7 @@ module _ (w : World) (c : ℕ) where
       go false = refl
 
   pub nothing-read : (a : ℕ) → named a ≡ nothing → view c (plain w (readRegister a)) ≡ view c w
-  unfolding after calls.readBoard
+  unfolding after registers.readBoard
   nothing-read a e = rw e
 
 -- ---- A call that names another channel feeds this one nothing

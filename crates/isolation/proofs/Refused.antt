@@ -24,8 +24,11 @@ use Rattle.board_state.specs.declared.Board.{Board}
 use Rattle.board_state.specs.State.{channelAt, withChannelAt}
 use Rattle.board_state.specs.Main.{mainValue}
 use Rattle.board_state.specs.Parts.{own, withOwn}
-use Rattle.board.specs.Calls.{readbacksFit, setpointsFit, noChannel, readbackSize, setpointSize, writeBoardAt, writeAnswerAt, writeWordsAt, readBoardAt, readAnswerAt}
-use Rattle.board.specs.Calls as calls
+use Rattle.board_state.specs.Lending.{readbacksFit, setpointsFit, noChannel, readbackSize, setpointSize}
+use Rattle.board_registers.specs.Calls.{writeBoardAt, writeAnswerAt, writeWordsAt, readBoardAt, readAnswerAt}
+use Rattle.board.specs.Calls as board
+use Rattle.board_channels.specs.Calls as channels
+use Rattle.board_registers.specs.Calls as registers
 use Rattle.isolation.specs.Calls.{Call, writeRegister, readRegister, writeSetpoint, arm, disarm, reply, query, tick, event, changeUser, interruptLevel, Lent, none, words, buffers, first, answer, after, wordsAfter, lentAfter, refused}
 use Rattle.isolation.specs.Isolation.{RefusedChangesNothing}
 use Rattle.isolation.proofs.Parts.{own-same}
@@ -96,21 +99,21 @@ module _ (b : Board) where
 
   -- ---- The board, and the words, after each call
 
-  write-board : (k a v : ℕ) → isRefusal (calls.writeAnswer b k a v) ≡ true → calls.writeBoard b k a v ≡ b
-  unfolding calls.writeAnswer calls.writeBoard
+  write-board : (k a v : ℕ) → isRefusal (registers.writeAnswer b k a v) ≡ true → registers.writeBoard b k a v ≡ b
+  unfolding registers.writeAnswer registers.writeBoard
   write-board k a v h = by-test (Is b) (readbacksFit b k) (λ t. write-at (named a) v (rw t at h)) (λ t. refl)
 
-  write-words : (s : List ℕ) (a v : ℕ) → isRefusal (calls.writeAnswer b (length s) a v) ≡ true → calls.writeWords b s a v ≡ s
-  unfolding calls.writeAnswer calls.writeWords
+  write-words : (s : List ℕ) (a v : ℕ) → isRefusal (registers.writeAnswer b (length s) a v) ≡ true → registers.writeWords b s a v ≡ s
+  unfolding registers.writeAnswer registers.writeWords
   write-words s a v h = by-test (Is s) (readbacksFit b (length s)) (λ t. write-words-at (named a) s v (rw t at h)) (λ t. refl)
 
-  read-board : (a : ℕ) → isRefusal (calls.readAnswer b a) ≡ true → calls.readBoard b a ≡ b
-  unfolding calls.readAnswer calls.readBoard
+  read-board : (a : ℕ) → isRefusal (registers.readAnswer b a) ≡ true → registers.readBoard b a ≡ b
+  unfolding registers.readAnswer registers.readBoard
   read-board a h = read-at (named a) h
 
-  setpoint-all : (s : List ℕ) (d u f i x : ℕ) → isRefusal (calls.setpointAnswer b (length s) d u f i) ≡ true
-      → calls.setpointWords b s d u f i x ≡ s
-  unfolding calls.setpointAnswer calls.setpointWords
+  setpoint-all : (s : List ℕ) (d u f i x : ℕ) → isRefusal (channels.setpointAnswer b (length s) d u f i) ≡ true
+      → channels.setpointWords b s d u f i x ≡ s
+  unfolding channels.setpointAnswer channels.setpointWords
   setpoint-all s d u f i x h =
       by-test (Is s) (setpointsFit b (length s))
       (λ t. by-test (Is s) (noChannel d) (λ q. refl)
@@ -119,20 +122,20 @@ module _ (b : Board) where
       ∙ own-same s (setpointSize b) d))
       (λ t. refl)
 
-  armed-board : (d : ℕ) (on : Bool) → isRefusal (calls.armAnswer d) ≡ true → calls.setArmed b d on ≡ b
-  unfolding calls.armAnswer calls.setArmed
+  armed-board : (d : ℕ) (on : Bool) → isRefusal (channels.armAnswer d) ≡ true → channels.setArmed b d on ≡ b
+  unfolding channels.armAnswer channels.setArmed
   armed-board d on h = by-test (Is b) (noChannel d) (λ t. refl) (λ t. clash (rw t at h))
 
-  reply-board : (k d f : ℕ) → isRefusal (calls.replyAnswer b k d f) ≡ true → calls.replyBoard b k d f ≡ b
-  unfolding calls.replyAnswer calls.replyBoard
+  reply-board : (k d f : ℕ) → isRefusal (channels.replyAnswer b k d f) ≡ true → channels.replyBoard b k d f ≡ b
+  unfolding channels.replyAnswer channels.replyBoard
   reply-board k d f h =
       by-test (Is b) (readbacksFit b k)
       (λ t. by-test (Is b) (noChannel d) (λ q. refl)
       (λ q. ap (withChannelAt b d) (reply-still (channelAt b d) (b .m) f (rw (t, q) at h)) ∙ withChannelAt-own b d))
       (λ t. refl)
 
-  reply-all : (s : List ℕ) (d f : ℕ) → isRefusal (calls.replyAnswer b (length s) d f) ≡ true → calls.replyWords b s d f ≡ s
-  unfolding calls.replyAnswer calls.replyWords
+  reply-all : (s : List ℕ) (d f : ℕ) → isRefusal (channels.replyAnswer b (length s) d f) ≡ true → channels.replyWords b s d f ≡ s
+  unfolding channels.replyAnswer channels.replyWords
   reply-all s d f h =
       by-test (Is s) (readbacksFit b (length s))
       (λ t. by-test (Is s) (noChannel d) (λ q. refl)
@@ -141,20 +144,20 @@ module _ (b : Board) where
       ∙ own-same s (readbackSize b) d))
       (λ t. refl)
 
-  tick-board : (l : Lent) → refused b tick l ≡ true → calls.tickBoard b (first l) ≡ b
-  unfolding answer calls.tickBoardAnswer calls.tickBoard
+  tick-board : (l : Lent) → refused b tick l ≡ true → board.tickBoard b (first l) ≡ b
+  unfolding answer board.tickBoardAnswer board.tickBoard
   tick-board l h = by-test (Is b) (setpointsFit b (length (first l))) (λ t. clash (rw t at h)) (λ t. refl)
 
-  event-board : (k x : ℕ) → isRefusal (calls.eventAnswer b k) ≡ true → calls.eventBoard b k x ≡ b
-  unfolding calls.eventAnswer calls.eventBoard
+  event-board : (k x : ℕ) → isRefusal (board.eventAnswer b k) ≡ true → board.eventBoard b k x ≡ b
+  unfolding board.eventAnswer board.eventBoard
   event-board k x h = by-test (Is b) (readbacksFit b k) (λ t. clash (rw t at h)) (λ t. refl)
 
-  event-words : (s : List ℕ) (x : ℕ) → isRefusal (calls.eventAnswer b (length s)) ≡ true → calls.eventWords b s x ≡ s
-  unfolding calls.eventAnswer calls.eventWords
+  event-words : (s : List ℕ) (x : ℕ) → isRefusal (board.eventAnswer b (length s)) ≡ true → board.eventWords b s x ≡ s
+  unfolding board.eventAnswer board.eventWords
   event-words s x h = by-test (Is s) (readbacksFit b (length s)) (λ t. clash (rw t at h)) (λ t. refl)
 
-  user-board : (u : ℕ) → isRefusal (calls.userAnswer u) ≡ true → calls.userBoard b u ≡ b
-  unfolding calls.userAnswer calls.userBoard
+  user-board : (u : ℕ) → isRefusal (board.userAnswer u) ≡ true → board.userBoard b u ≡ b
+  unfolding board.userAnswer board.userBoard
   user-board u h = rw (unless-refused (userRefusal u) ans.done refl h)
 
   -- ---- Every call

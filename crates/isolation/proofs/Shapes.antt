@@ -17,8 +17,12 @@ use Rattle.histories.proofs.Lengths.{SameLength, written-length, setpoint-lengt
 use Rattle.board_state.specs.declared.Board.{Board}
 use Rattle.board_state.specs.State.{channelAt}
 use Rattle.board_state.specs.Main.{mainWritten, mainRead, statusRead, takenAt}
-use Rattle.board.specs.Calls.{noChannel, setpointsFit, readbacksFit, writeBoardAt, readBoardAt, eventBoards, eventBoardAt, changedAt}
-use Rattle.board.specs.Calls as calls
+use Rattle.board_state.specs.Lending.{noChannel, setpointsFit, readbacksFit}
+use Rattle.board.specs.Calls.{eventBoards, eventBoardAt, changedAt}
+use Rattle.board_registers.specs.Calls.{writeBoardAt, readBoardAt}
+use Rattle.board.specs.Calls as board
+use Rattle.board_channels.specs.Calls as channels
+use Rattle.board_registers.specs.Calls as registers
 use Rattle.board.specs.Worlds.{World}
 use Rattle.isolation.specs.Calls.{Call, writeRegister, readRegister, writeSetpoint, arm, disarm, reply, query, tick, event, changeUser, interruptLevel, Lent, first, after, wordsAfter}
 use Rattle.isolation.proofs.Cases.{named-number}
@@ -53,12 +57,12 @@ module _ (b : Board) where
   read-at (channel d o) = record { n = refl; m = refl; channels = simp length-set }
   read-at nothing = same
 
-  armed : (d : ℕ) (on : Bool) → Shape b (calls.setArmed b d on)
-  unfolding calls.setArmed
+  armed : (d : ℕ) (on : Bool) → Shape b (channels.setArmed b d on)
+  unfolding channels.setArmed
   armed d on = either (Shape b) (noChannel d) same (record { n = refl; m = refl; channels = simp length-set })
 
   pub shape : (x : Call) (l : Lent) → Shape b (after b x l)
-  unfolding after calls.writeBoard calls.readBoard calls.replyBoard calls.tickBoard calls.eventBoard eventBoards eventBoardAt calls.userBoard changedAt
+  unfolding after registers.writeBoard registers.readBoard channels.replyBoard board.tickBoard board.eventBoard eventBoards eventBoardAt board.userBoard changedAt
   shape (writeRegister a v) l = either (Shape b) (readbacksFit b (length (first l))) (write-at (named a) v) same
   shape (readRegister a) l = read-at (named a)
   shape (writeSetpoint d u f i x) l = same
@@ -82,11 +86,11 @@ module _ (b : Board) where
 -- ---- The memories
 
 module _ (b : Board) (s : List ℕ) where
-  write-length : (a v : ℕ) → SameLength s (calls.writeWords b s a v)
-  unfolding calls.writeWords
+  write-length : (a v : ℕ) → SameLength s (registers.writeWords b s a v)
+  unfolding registers.writeWords
   write-length a v = go (named a) refl
     where
-      go : (n : Named) → named a ≡ n → SameLength s (calls.writeWords b s a v)
+      go : (n : Named) → named a ≡ n → SameLength s (registers.writeWords b s a v)
       go (main o) e = rw e (either (SameLength s) (readbacksFit b (length s)) refl refl)
       go (channel d o) e =
           ap length (writes-over b s d a o v e (named-number a d o e))
@@ -94,13 +98,13 @@ module _ (b : Board) (s : List ℕ) where
           (λ p. written-length (channelAt b d) p (b .m) o v)
       go nothing e = rw e (either (SameLength s) (readbacksFit b (length s)) refl refl)
 
-  setpoints-length : (d u f i x : ℕ) → SameLength s (calls.setpointWords b s d u f i x)
+  setpoints-length : (d u f i x : ℕ) → SameLength s (channels.setpointWords b s d u f i x)
   setpoints-length d u f i x =
       ap length (setpoints-over b s d u f i x)
       ∙ over-length s (b .n * 64) (b .n * 16) d (λ (p : List ℕ). chn.setpointWords (channelAt b d) p (b .n) u f i x) (parted-sets b)
       (λ p. setpoint-length (channelAt b d) p (b .n) u f i x)
 
-  replies-length : (d f : ℕ) → SameLength s (calls.replyWords b s d f)
+  replies-length : (d f : ℕ) → SameLength s (channels.replyWords b s d f)
   replies-length d f =
       ap length (replies-over b s d f)
       ∙ over-length s (b .m * 8) (b .m * 2) d (λ (p : List ℕ). core.replyWords (channelAt b d) p (b .m) (b .user) f) (parted-reads b)
@@ -118,8 +122,8 @@ module _ (w : World) (g : Good w) where
         reads = q ∙ g .reads ∙ ap (λ (m : ℕ). m * 8) (sym (k .m));
       }
 
-  event-kept : (x : ℕ) → SameLength (w .readbacks) (calls.eventWords (w .board) (w .readbacks) x)
-  unfolding calls.eventWords eventBoards eventBoardAt
+  event-kept : (x : ℕ) → SameLength (w .readbacks) (board.eventWords (w .board) (w .readbacks) x)
+  unfolding board.eventWords eventBoards eventBoardAt
   event-kept x = rw (full-reads w g) (good-first w g x 4 (omega arith) .reads ∙ sym (g .reads))
 
   pub good-plain : (x : Call) → Good (plain w x)

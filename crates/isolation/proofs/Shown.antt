@@ -11,7 +11,10 @@ use Rattle.channel.specs.OneChannel as to
 use Rattle.channel.proofs.Cases.{either}
 use Rattle.histories.proofs.Depths.{depths-kept}
 use Rattle.board_state.specs.declared.Board.{Board}
-use Rattle.board.specs.Calls.{setpointsFit, readAnswer, setpointAnswer, tickBoardAnswer}
+use Rattle.board_state.specs.Lending.{setpointsFit}
+use Rattle.board.specs.Calls.{tickBoardAnswer}
+use Rattle.board_channels.specs.Calls.{setpointAnswer}
+use Rattle.board_registers.specs.Calls.{readAnswer}
 use Rattle.board.specs.Worlds.{World}
 use Rattle.isolation.specs.Calls.{readRegister, writeSetpoint, tick, Lent, none, words, first, answer, refused, given, worldAfter, opening}
 use Rattle.isolation.specs.Feeding.{fed, view}

@@ -22,7 +22,9 @@ use Rattle.board_state.specs.State.{channelAt}
 use Rattle.board_state.specs.Main.{mainWritten, mainRead, statusRead, takenAt}
 use Rattle.board_state.specs.Parts.{own}
 use Rattle.board.specs.Calls.{tickChannel, changedAt}
-use Rattle.board.specs.Calls as calls
+use Rattle.board.specs.Calls as board
+use Rattle.board_channels.specs.Calls as channels
+use Rattle.board_registers.specs.Calls as registers
 use Rattle.board.specs.Worlds.{World}
 use Rattle.isolation.specs.Calls.{writeRegister, readRegister, writeSetpoint, reply, query, tick, event, changeUser, withBoard, after, wordsAfter}
 use Rattle.isolation.specs.Feeding.{view}
@@ -39,7 +41,7 @@ module _ (w : World) (g : Good w) (c : ℕ) (h : Number c) where
 
   pub view-write : (a o v : ℕ) → named a ≡ channel c o
       → view c (plain w (writeRegister a v)) ≡ transition (view c w) (to.writeRegister (length (w .readbacks)) o v)
-  unfolding after wordsAfter calls.writeBoard
+  unfolding after wordsAfter registers.writeBoard
   view-write a o v e =
       rw (full-reads w g, e)
       (ap₂ (withBoth (view c w)) (withChannelAt-same (w .board) c _ (g .four) h)
@@ -50,7 +52,7 @@ module _ (w : World) (g : Good w) (c : ℕ) (h : Number c) where
       ∙ sym (transition-write (view c w) (length (w .readbacks)) (full-reads w g) o v))
 
   pub view-read : (a o : ℕ) → named a ≡ channel c o → view c (plain w (readRegister a)) ≡ transition (view c w) (to.readRegister o)
-  unfolding after calls.readBoard
+  unfolding after registers.readBoard
   view-read a o e =
       rw e (ap (withChannel (view c w)) (withChannelAt-same (w .board) c _ (g .four) h) ∙ sym (transition-read (view c w) o))
 
@@ -66,12 +68,12 @@ module _ (w : World) (g : Good w) (c : ℕ) (h : Number c) where
       ∙ sym (transition-setpoint (view c w) (length (w .setpoints)) (full-sets w g) u f i x)
 
   pub view-armed : (on : Bool)
-      → view c (withBoard w (calls.setArmed (w .board) c on)) ≡ withChannel (view c w) (chn.setArmed (channelAt (w .board) c) on)
-  unfolding calls.setArmed
+      → view c (withBoard w (channels.setArmed (w .board) c on)) ≡ withChannel (view c w) (chn.setArmed (channelAt (w .board) c) on)
+  unfolding channels.setArmed
   view-armed on = rw (in-range c h) (ap (withChannel (view c w)) (withChannelAt-same (w .board) c _ (g .four) h))
 
   pub view-reply : (f : ℕ) → view c (plain w (reply c f)) ≡ transition (view c w) (to.reply (length (w .readbacks)) f)
-  unfolding after wordsAfter calls.replyBoard
+  unfolding after wordsAfter channels.replyBoard
   view-reply f =
       rw (full-reads w g, in-range c h)
       (ap₂ (withBoth (view c w)) (withChannelAt-same (w .board) c _ (g .four) h)
@@ -87,7 +89,7 @@ module _ (w : World) (g : Good w) (c : ℕ) (h : Number c) where
   -- ---- Shared calls
 
   pub view-tick : view c (plain w tick) ≡ transition (view c w) (to.tick (length (w .setpoints)))
-  unfolding after wordsAfter calls.tickBoard tickChannel
+  unfolding after wordsAfter board.tickBoard tickChannel
   view-tick =
       rw (full-sets w g)
       (ap (withChannel (view c w))
@@ -95,13 +97,13 @@ module _ (w : World) (g : Good w) (c : ℕ) (h : Number c) where
       ∙ sym (transition-tick (view c w) (length (w .setpoints)) (full-sets w g)))
 
   pub view-event : (x : ℕ) → view c (plain w (event x)) ≡ transition (view c w) (to.event (length (w .readbacks)) x)
-  unfolding after wordsAfter calls.eventBoard calls.eventWords
+  unfolding after wordsAfter board.eventBoard board.eventWords
   view-event x =
       rw (full-reads w g) (past-it w g x c h 4 (h .high) (omega arith))
       ∙ sym (transition-event (view c w) (length (w .readbacks)) (full-reads w g) x)
 
   pub view-user : (u : ℕ) → view c (plain w (changeUser u)) ≡ transition (view c w) (to.changeUser u)
-  unfolding after calls.userBoard changedAt transition refusalOf effect
+  unfolding after board.userBoard changedAt transition refusalOf effect
   view-user u = go (eqb (userRefusal u) 0) refl (eqb u (w .board .user)) refl
     where
       go : (t : Bool) → eqb (userRefusal u) 0 ≡ t → (q : Bool) → eqb u (w .board .user) ≡ q
@@ -115,7 +117,7 @@ module _ (w : World) (g : Good w) (c : ℕ) (h : Number c) where
 
   pub view-write-main : (a o v : ℕ) → named a ≡ main o
       → view c (plain w (writeRegister a v)) ≡ transition (view c w) (to.writeMain (length (w .readbacks)) o v)
-  unfolding after wordsAfter calls.writeBoard calls.writeWords mainWritten
+  unfolding after wordsAfter registers.writeBoard registers.writeWords mainWritten
   view-write-main a o v e =
       rw (full-reads w g, e)
       (either (λ (b : Board). view c (withBoard w b) ≡ view c w) (eqb (writeRefusal (mainAccess o)) 0) refl refl
@@ -134,7 +136,7 @@ module _ (w : World) (g : Good w) (c : ℕ) (h : Number c) where
       go false false = refl
 
   pub view-read-main : (a o : ℕ) → named a ≡ main o → view c (plain w (readRegister a)) ≡ transition (view c w) (to.readMain o)
-  unfolding after calls.readBoard transition refusalOf effect
+  unfolding after registers.readBoard transition refusalOf effect
   view-read-main a o e = rw e (go (eqb (readRefusal (mainAccess o)) 0))
     where
       go : (t : Bool)

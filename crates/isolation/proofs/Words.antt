@@ -14,8 +14,9 @@ use Rattle.histories.proofs.Lengths.{SameLength}
 use Rattle.board_state.specs.declared.Board.{Board}
 use Rattle.board_state.specs.State.{channelAt}
 use Rattle.board_state.specs.Parts.{own, withOwn}
-use Rattle.board.specs.Calls.{noChannel}
-use Rattle.board.specs.Calls as calls
+use Rattle.board_state.specs.Lending.{noChannel}
+use Rattle.board_channels.specs.Calls as channels
+use Rattle.board_registers.specs.Calls as registers
 use Rattle.isolation.proofs.Parts.{Number, own-length, own-mine, own-theirs, own-kept}
 use Rattle.isolation.proofs.Cases.{in-range, range-in}
 
@@ -60,19 +61,19 @@ module _ (s : List ℕ) (total size d : ℕ) (f : List ℕ → List ℕ) (parted
 
 module _ (b : Board) (s : List ℕ) (d : ℕ) where
   pub setpoints-over : (u f i x : ℕ)
-      → calls.setpointWords b s d u f i x
+      → channels.setpointWords b s d u f i x
       ≡ over s (b .n * 64) (b .n * 16) d (λ (p : List ℕ). chn.setpointWords (channelAt b d) p (b .n) u f i x)
-  unfolding calls.setpointWords
+  unfolding channels.setpointWords
   setpoints-over u f i x = refl
 
   pub replies-over : (f : ℕ)
-      → calls.replyWords b s d f
+      → channels.replyWords b s d f
       ≡ over s (b .m * 8) (b .m * 2) d (λ (p : List ℕ). core.replyWords (channelAt b d) p (b .m) (b .user) f)
-  unfolding calls.replyWords
+  unfolding channels.replyWords
   replies-over f = refl
 
   pub writes-over : (a o v : ℕ) → named a ≡ channel d o → Number d
-      → calls.writeWords b s a v
+      → registers.writeWords b s a v
       ≡ over s (b .m * 8) (b .m * 2) d (λ (p : List ℕ). chn.writtenWords (channelAt b d) p (b .m) o v)
-  unfolding calls.writeWords
+  unfolding registers.writeWords
   writes-over a o v e h = rw (e, in-range d h)

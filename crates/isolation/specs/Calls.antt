@@ -14,7 +14,9 @@ use Rattle.board_state.specs.Main.{levelOf}
 use Rattle.board_state.specs.Parts.{own}
 use Rattle.board.specs.Worlds.{World, world}
 use Rattle.board.specs.Answers.{BoardAnswer, one, refuses}
-use Rattle.board.specs.Calls as calls
+use Rattle.board.specs.Calls as board
+use Rattle.board_channels.specs.Calls as channels
+use Rattle.board_registers.specs.Calls as registers
 
 -- "In the list stand the calls under Calls, the retired call's twin": a call's arguments alone. `query` are the calls that name a channel and
 -- change nothing: retired readbacks and its twin
@@ -60,47 +62,47 @@ lengths (buffers s t) = length s ∷ (length t ∷ [])
 -- ---- What the contracts say of a call, refused or not: its answer, the board after it, the lent words after it
 
 abbrev pub queryAnswer : Board → ℕ → Query → Lent → Answer
-queryAnswer b number retired l = calls.retiredAnswer b number (first l) (second l)
-queryAnswer b number retiredLength l = calls.retiredLength b number (first l) (second l)
+queryAnswer b number retired l = channels.retiredAnswer b number (first l) (second l)
+queryAnswer b number retiredLength l = channels.retiredLength b number (first l) (second l)
 
 unfoldable pub answer : Board → Call → Lent → BoardAnswer
-answer b (writeRegister address value) l = one (calls.writeAnswer b (length (first l)) address value)
-answer b (readRegister address) l = one (calls.readAnswer b address)
+answer b (writeRegister address value) l = one (registers.writeAnswer b (length (first l)) address value)
+answer b (readRegister address) l = one (registers.readAnswer b address)
 answer b (writeSetpoint number user buffer index word) l =
-    one (calls.setpointAnswer b (length (first l)) number user buffer index)
-answer b (arm number) l = one (calls.armAnswer number)
-answer b (disarm number) l = one (calls.armAnswer number)
-answer b (reply number frame) l = one (calls.replyAnswer b (length (first l)) number frame)
+    one (channels.setpointAnswer b (length (first l)) number user buffer index)
+answer b (arm number) l = one (channels.armAnswer number)
+answer b (disarm number) l = one (channels.armAnswer number)
+answer b (reply number frame) l = one (channels.replyAnswer b (length (first l)) number frame)
 answer b (query number which) l = one (queryAnswer b number which l)
-answer b tick l = calls.tickBoardAnswer b (first l)
-answer b (event code) l = one (calls.eventAnswer b (length (first l)))
-answer b (changeUser user) l = one (calls.userAnswer user)
+answer b tick l = board.tickBoardAnswer b (first l)
+answer b (event code) l = one (board.eventAnswer b (length (first l)))
+answer b (changeUser user) l = one (board.userAnswer user)
 answer b interruptLevel l = one (ans.value (levelOf b))
 
 unfoldable pub after : Board → Call → Lent → Board
-after b (writeRegister address value) l = calls.writeBoard b (length (first l)) address value
-after b (readRegister address) l = calls.readBoard b address
+after b (writeRegister address value) l = registers.writeBoard b (length (first l)) address value
+after b (readRegister address) l = registers.readBoard b address
 after b (writeSetpoint number user buffer index word) l = b
-after b (arm number) l = calls.armBoard b number
-after b (disarm number) l = calls.disarmBoard b number
-after b (reply number frame) l = calls.replyBoard b (length (first l)) number frame
+after b (arm number) l = channels.armBoard b number
+after b (disarm number) l = channels.disarmBoard b number
+after b (reply number frame) l = channels.replyBoard b (length (first l)) number frame
 after b (query number which) l = b
-after b tick l = calls.tickBoard b (first l)
-after b (event code) l = calls.eventBoard b (length (first l)) code
-after b (changeUser user) l = calls.userBoard b user
+after b tick l = board.tickBoard b (first l)
+after b (event code) l = board.eventBoard b (length (first l)) code
+after b (changeUser user) l = board.userBoard b user
 after b interruptLevel l = b
 
 -- a memory after the call that it was lent to. Register write, setpoint write, reply and event may change it
 unfoldable pub wordsAfter : Board → Call → List ℕ → List ℕ
-wordsAfter b (writeRegister address value) s = calls.writeWords b s address value
+wordsAfter b (writeRegister address value) s = registers.writeWords b s address value
 wordsAfter b (readRegister address) s = s
-wordsAfter b (writeSetpoint number user buffer index word) s = calls.setpointWords b s number user buffer index word
+wordsAfter b (writeSetpoint number user buffer index word) s = channels.setpointWords b s number user buffer index word
 wordsAfter b (arm number) s = s
 wordsAfter b (disarm number) s = s
-wordsAfter b (reply number frame) s = calls.replyWords b s number frame
+wordsAfter b (reply number frame) s = channels.replyWords b s number frame
 wordsAfter b (query number which) s = s
 wordsAfter b tick s = s
-wordsAfter b (event code) s = calls.eventWords b s code
+wordsAfter b (event code) s = board.eventWords b s code
 wordsAfter b (changeUser user) s = s
 wordsAfter b interruptLevel s = s
 
@@ -205,4 +207,4 @@ worldAfter w (i ∷ is) = worldAfter (step w i) is
 
 -- the world of an opening: "Opening leaves lent words as they are"
 abbrev pub opening : ℕ → ℕ → List ℕ → List ℕ → World
-opening n m setpoints readbacks = world (calls.openBoard n m (length setpoints) (length readbacks)) setpoints readbacks
+opening n m setpoints readbacks = world (board.openBoard n m (length setpoints) (length readbacks)) setpoints readbacks

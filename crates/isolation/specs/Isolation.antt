@@ -15,7 +15,8 @@ use Rattle.board_state.specs.declared.Board.{Board}
 use Rattle.board_state.specs.State.{channelAt}
 use Rattle.board_state.specs.Main.{mainStatus}
 use Rattle.board_state.specs.Parts.{own}
-use Rattle.board.specs.Calls.{openAnswer, readAnswer}
+use Rattle.board.specs.Calls.{openAnswer}
+use Rattle.board_registers.specs.Calls.{readAnswer}
 use Rattle.board.specs.Worlds.{World}
 use Rattle.isolation.specs.Calls.{Call, writeSetpoint, tick, Lent, words, buffers, Item, after, lentAfter, refused, ownBuffers, step, Fits, Allowed, worldAfter, opening}
 use Rattle.isolation.specs.Feeding.{names, feeds, fed, observes, view}

@@ -1,6 +1,6 @@
 // The board's calls, each with its answer printed: the words of tests/CALLS.md, Records, after the record's number.
-use board::Written;
 use board_state::Board;
+use board_state::Written;
 use call_script::lent;
 use call_script::pool;
 use channel::Outcome;
@@ -91,21 +91,21 @@ pub fn write_setpoint(
 ) -> Board {
     outcome(
         block,
-        board::write_setpoint(b, setpoints, number, user, buffer, index, word),
+        board_channels::write_setpoint(b, setpoints, number, user, buffer, index, word),
     );
     b
 }
 
 pub fn arm(block: &mut Block, b: Board, number: u32) -> Board {
-    done(block, board::arm(b, number))
+    done(block, board_channels::arm(b, number))
 }
 
 pub fn disarm(block: &mut Block, b: Board, number: u32) -> Board {
-    done(block, board::disarm(b, number))
+    done(block, board_channels::disarm(b, number))
 }
 
 pub fn reply(block: &mut Block, b: Board, readbacks: &mut [u32], number: u32, frame: u64) -> Board {
-    let w = board::reply(b, readbacks, number, frame);
+    let w = board_channels::reply(b, readbacks, number, frame);
     let board = w.board;
     let r = w.receipt;
     receipt(block, r);
@@ -128,7 +128,7 @@ fn words(block: &mut Block, part: &[u32]) {
 
 pub fn retired<'a>(block: &mut Block, b: Board, number: u32, one: &'a [u32], two: &'a [u32]) {
     output::text(block, b" part");
-    words(block, board::retired(b, number, one, two));
+    words(block, board_channels::retired(b, number, one, two));
 }
 
 pub fn retired_length<'a>(
@@ -138,7 +138,7 @@ pub fn retired_length<'a>(
     one: &'a [u32],
     two: &'a [u32],
 ) {
-    let length = board::retired_length(b, number, one, two);
+    let length = board_channels::retired_length(b, number, one, two);
     match length {
         PartLength::Words(n) => output::numbered(block, b" length ", n as u64),
         PartLength::Refused(k) => refused(block, k),
@@ -149,7 +149,7 @@ pub fn retired_length<'a>(
 fn retired_count(block: &mut Block, b: Board, readbacks: &[u32], channel: u8, words: &[u8]) {
     let one = pool::part(readbacks, lent::first_buffer(0, b.m, channel));
     let two = pool::part(readbacks, lent::second_buffer(0, b.m, channel));
-    let length = board::retired_length(b, channel as u32, one, two);
+    let length = board_channels::retired_length(b, channel as u32, one, two);
     match length {
         PartLength::Words(n) => output::numbered(block, words, n as u64),
         PartLength::Refused(_) => {}

@@ -9,7 +9,9 @@ use Rattle.channel_core.specs.Answers as ans
 use Rattle.board_state.specs.declared.Board.{Board}
 use Rattle.board.specs.Worlds.{World, world}
 use Rattle.board.specs.Answers.{BoardAnswer, one}
-use Rattle.board.specs.Calls.{writeBoard, writeAnswer, writeWords, readBoard, readAnswer, setpointAnswer, setpointWords, armBoard, disarmBoard, armAnswer, replyBoard, replyAnswer, replyWords, tickBoard, tickBoardAnswer, eventBoard, eventAnswer, eventWords, userBoard, userAnswer}
+use Rattle.board.specs.Calls.{tickBoard, tickBoardAnswer, eventBoard, eventAnswer, eventWords, userBoard, userAnswer}
+use Rattle.board_channels.specs.Calls.{setpointAnswer, setpointWords, armBoard, disarmBoard, armAnswer, replyBoard, replyAnswer, replyWords}
+use Rattle.board_registers.specs.Calls.{writeBoard, writeAnswer, writeWords, readBoard, readAnswer}
 use Rattle.records.specs.Requests.{Asked}
 use Rattle.records.specs.Requests as asked
 

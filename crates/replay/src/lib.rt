@@ -1,6 +1,6 @@
 // What one record of a run file does: the board's own calls, and their answers counted.
-use board::Written;
 use board_state::Board;
+use board_state::Written;
 use channel::Outcome;
 use records::Request;
 use refusal::Refusal;
@@ -9,7 +9,9 @@ ghost use mathlib.Core.Path.{_≡_};
 ghost use lib.ListN.{length};
 ghost use Rattle.channel.specs.Answers.{outcomeOf};
 ghost use Rattle.board.specs.Answers.{one};
-ghost use Rattle.board.specs.Calls.{writeBoard, writeAnswer, writeWords, readBoard, readAnswer, setpointAnswer, setpointWords, armBoard, disarmBoard, armAnswer, replyBoard, replyAnswer, replyWords, eventBoard, eventAnswer, eventWords, userBoard, userAnswer};
+ghost use Rattle.board.specs.Calls.{eventBoard, eventAnswer, eventWords, userBoard, userAnswer};
+ghost use Rattle.board_channels.specs.Calls.{setpointAnswer, setpointWords, armBoard, disarmBoard, armAnswer, replyBoard, replyAnswer, replyWords};
+ghost use Rattle.board_registers.specs.Calls.{writeBoard, writeAnswer, writeWords, readBoard, readAnswer};
 ghost use Rattle.records.specs.Requests.{requestOf};
 ghost use Rattle.tally.specs.Tallies.{tally, tallies};
 ghost use Rattle.board.specs.Worlds.{world};
@@ -71,7 +73,7 @@ fn setpoint(
 {
     let b = s.board;
     let c = s.counts;
-    let outcome = board::write_setpoint(b, setpoints, number, user, buffer, index, word);
+    let outcome = board_channels::write_setpoint(b, setpoints, number, user, buffer, index, word);
     RunState {
         board: b,
         counts: c.outcome(outcome),
@@ -91,7 +93,7 @@ fn reply(s: RunState, readbacks: &mut [u32], number: u32, frame: u64) -> RunStat
 {
     let b = s.board;
     let c = s.counts;
-    let w = board::reply(b, readbacks, number, frame);
+    let w = board_channels::reply(b, readbacks, number, frame);
     let board = w.board;
     let receipt = w.receipt;
     RunState {
@@ -113,7 +115,7 @@ fn arm(s: RunState, number: u32) -> RunState
 {
     let b = s.board;
     let c = s.counts;
-    counted(c, board::arm(b, number))
+    counted(c, board_channels::arm(b, number))
 }
 
 fn disarm(s: RunState, number: u32) -> RunState
@@ -121,7 +123,7 @@ fn disarm(s: RunState, number: u32) -> RunState
 {
     let b = s.board;
     let c = s.counts;
-    counted(c, board::disarm(b, number))
+    counted(c, board_channels::disarm(b, number))
 }
 
 // A record of so many ticks makes that many ticks of the board.

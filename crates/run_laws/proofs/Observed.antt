@@ -24,8 +24,11 @@ use Rattle.board_state.specs.declared.Board.{Board}
 use Rattle.board_state.specs.State.{channelAt}
 use Rattle.board_state.specs.Main.{mainValue}
 use Rattle.board.specs.Answers.{BoardAnswer, one}
-use Rattle.board.specs.Calls.{noChannel, setpointsFit, readbacksFit, readAnswerAt, writeAnswerAt}
-use Rattle.board.specs.Calls as calls
+use Rattle.board_state.specs.Lending.{noChannel, setpointsFit, readbacksFit}
+use Rattle.board_registers.specs.Calls.{readAnswerAt, writeAnswerAt}
+use Rattle.board.specs.Calls as board
+use Rattle.board_channels.specs.Calls as channels
+use Rattle.board_registers.specs.Calls as registers
 use Rattle.isolation.specs.Calls.{Call, writeRegister, readRegister, writeSetpoint, arm, disarm, reply, query, tick, event, changeUser, interruptLevel, Lent, first, second, queryAnswer, answer}
 use Rattle.isolation.specs.Feeding.{only, Scope, ofOne, ofEach, ofMain, ofAll, ofNone, writeScope, readScope, answerFor, shared, sharedRead, observeIn, observe}
 use Rattle.channel.proofs.Cases.{by-test}
@@ -63,22 +66,22 @@ module _ (b : Board) where
   read-at (channel d o) = unless-quiet (readRefusal (channelAccess o)) (ans.value (chn.readValue (channelAt b d) o)) (record { quiet = refl })
   read-at nothing = record { quiet = refl }
 
-  setpoint-quiet : (k d u f i : ℕ) → Quiet (calls.setpointAnswer b k d u f i)
-  unfolding calls.setpointAnswer chn.setpointAnswer
+  setpoint-quiet : (k d u f i : ℕ) → Quiet (channels.setpointAnswer b k d u f i)
+  unfolding channels.setpointAnswer chn.setpointAnswer
   setpoint-quiet k d u f i =
       by-test Quiet (setpointsFit b k)
       (λ t. by-test Quiet (noChannel d) (λ t. record { quiet = refl }) (λ t. unless-quiet (chn.setpointRefusal (channelAt b d) (b .n) u f i) ans.done (record { quiet = refl })))
       (λ t. record { quiet = refl })
 
-  reply-quiet : (k d f : ℕ) → Quiet (calls.replyAnswer b k d f)
-  unfolding calls.replyAnswer replyAnswer
+  reply-quiet : (k d f : ℕ) → Quiet (channels.replyAnswer b k d f)
+  unfolding channels.replyAnswer replyAnswer
   reply-quiet k d f =
       by-test Quiet (readbacksFit b k)
       (λ t. by-test Quiet (noChannel d) (λ t. record { quiet = refl }) (λ t. reading-quiet (read f) (channelAt b d) (b .m)))
       (λ t. record { quiet = refl })
 
-arm-quiet : (d : ℕ) → Quiet (calls.armAnswer d)
-unfolding calls.armAnswer
+arm-quiet : (d : ℕ) → Quiet (channels.armAnswer d)
+unfolding channels.armAnswer
 arm-quiet d = by-test Quiet (noChannel d) (λ t. record { quiet = refl }) (λ t. record { quiet = refl })
 
 -- ---- What is observed of them
@@ -104,16 +107,16 @@ observed-quiet c ofAll a q = one-quiet (shared a) (by-test Quiet (isRefusal a) (
 observed-quiet c ofNone a q = refl
 
 query-quiet : (b : Board) (d : ℕ) (q : Query) (l : Lent) → Quiet (queryAnswer b d q l)
-unfolding calls.retiredAnswer calls.retiredLength
+unfolding channels.retiredAnswer channels.retiredLength
 query-quiet b d to.retired l =
-    unless-quiet (calls.retiredRefusal b d (length (first l)) (length (second l))) (ans.part (calls.retiredWords b d (first l) (second l)))
+    unless-quiet (channels.retiredRefusal b d (length (first l)) (length (second l))) (ans.part (channels.retiredWords b d (first l) (second l)))
     (record { quiet = refl })
 query-quiet b d to.retiredLength l =
-    unless-quiet (calls.retiredRefusal b d (length (first l)) (length (second l))) (ans.partLength (length (calls.retiredWords b d (first l) (second l))))
+    unless-quiet (channels.retiredRefusal b d (length (first l)) (length (second l))) (ans.partLength (length (channels.retiredWords b d (first l) (second l))))
     (record { quiet = refl })
 
 pub frames-observed : (c : ℕ) (b : Board) (x : Call) (l : Lent) → howMany isFrame (observe c x (answer b x l)) ≡ howMany (sends c) (answer b x l ∷ [])
-unfolding howMany answer calls.writeAnswer calls.readAnswer calls.tickBoardAnswer calls.eventAnswer calls.userAnswer
+unfolding howMany answer registers.writeAnswer registers.readAnswer board.tickBoardAnswer board.eventAnswer board.userAnswer
 frames-observed c b (writeRegister a v) l =
     observed-quiet c (writeScope (named a)) _ (by-test Quiet (readbacksFit b (length (first l))) (λ t. write-at b (named a) v) (λ t. record { quiet = refl }))
 frames-observed c b (readRegister a) l = observed-quiet c (readScope (named a)) _ (read-at b (named a))

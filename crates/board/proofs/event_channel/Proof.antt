@@ -20,14 +20,14 @@ channel-requires c κs = search needs
 part-start-requires : tie.Need-part-start-requires
 part-start-requires c κs = search needs
 
-cast-e : tie.Need-cast-e
-cast-e c = search needs
+cast-end : tie.Need-cast-end
+cast-end c = search needs
 
-mul-e : tie.Need-mul-e
-mul-e c = search needs
+mul-end : tie.Need-mul-end
+mul-end c = search needs
 
-add-e : tie.Need-add-e
-add-e c = omega (arith, room c)
+add-end : tie.Need-add-end
+add-end c = omega (arith, room c)
 
 mul-event : tie.Need-mul-event
 mul-event c = omega (arith, room c)
@@ -64,9 +64,9 @@ event-channel-spec =
     (tie.spec
     channel-requires
     part-start-requires
-    cast-e
-    mul-e
-    add-e
+    cast-end
+    mul-end
+    add-end
     mul-event
     sub-event
     part-event-start

@@ -19,8 +19,8 @@ main-read-requires c κs = search needs
 main-value-requires : tie.Need-main-value-requires
 main-value-requires c κs = search needs
 
-enum-known-v : tie.Need-enum-known-v
-enum-known-v c = search needs
+enum-known-verdict : tie.Need-enum-known-verdict
+enum-known-verdict c = search needs
 
 returns : tie.Need-returns
 returns c =
@@ -34,7 +34,7 @@ returns-2 : tie.Need-returns-2
 returns-2 c =
     let s = c .before in
     let v = s .before .before in
-    let refused = s .v .given .1 in
+    let refused = s .verdict .given .1 in
     rw (← v .before .main-access .ensures, ← v .read-verdict .ensures) (simp (refused, refuses), simp (refused, refuses))
 
 pub read-main-spec : {M : Type 1} → statement M
@@ -46,6 +46,6 @@ read-main-spec =
     enum-told
     main-read-requires
     main-value-requires
-    enum-known-v
+    enum-known-verdict
     returns
     returns-2)

@@ -1,6 +1,6 @@
 -- `board_registers::read_register` meets its contract: by what the address names. Assumes nothing.
 use Rattle.board_registers.proofs.read_register.Statement.{statement}
-use Rattle.board.specs.Calls.{readBoard, readAnswer}
+use Rattle.board_registers.specs.Calls.{readBoard, readAnswer}
 use borrow.Author.Needs.{needs}
 use Rattle.board_registers.proofs.read_register.Tie as tie
 

@@ -19,14 +19,14 @@ channel-requires c κs = search needs
 part-start-requires : tie.Need-part-start-requires
 part-start-requires c κs = search needs
 
-cast-e : tie.Need-cast-e
-cast-e c = search needs
+cast-end : tie.Need-cast-end
+cast-end c = search needs
 
-mul-e : tie.Need-mul-e
-mul-e c = search needs
+mul-end : tie.Need-mul-end
+mul-end c = search needs
 
-add-e : tie.Need-add-e
-add-e c = omega (arith, room c)
+add-end : tie.Need-add-end
+add-end c = omega (arith, room c)
 
 mul-write-register : tie.Need-mul-write-register
 mul-write-register c = omega (arith, room c)
@@ -65,9 +65,9 @@ write-channel-spec =
     (tie.spec
     channel-requires
     part-start-requires
-    cast-e
-    mul-e
-    add-e
+    cast-end
+    mul-end
+    add-end
     mul-write-register
     sub-write-register
     part-write-register-start

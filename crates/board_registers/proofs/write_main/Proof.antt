@@ -16,8 +16,8 @@ enum-told c = search needs
 main-written-requires : tie.Need-main-written-requires
 main-written-requires c κs = search needs
 
-enum-known-v : tie.Need-enum-known-v
-enum-known-v c = search needs
+enum-known-verdict : tie.Need-enum-known-verdict
+enum-known-verdict c = search needs
 
 returns : tie.Need-returns
 returns c =
@@ -30,7 +30,7 @@ returns-2 : tie.Need-returns-2
 returns-2 c =
     let s = c .before in
     let v = s .before .before in
-    let refused = s .v .given .1 in
+    let refused = s .verdict .given .1 in
     rw (← v .before .main-access .ensures, ← v .write-verdict .ensures) (simp (refused, refuses), simp (refused, refuses))
 
 pub write-main-spec : {M : Type 1} → statement M
@@ -41,6 +41,6 @@ write-main-spec =
     write-verdict-requires
     enum-told
     main-written-requires
-    enum-known-v
+    enum-known-verdict
     returns
     returns-2)

@@ -5,8 +5,8 @@ use borrow.Author.Needs.{needs}
 use borrow.Author.Tests.{eq-eqb, ne-eqb}
 use Rattle.board_state.proofs.main_stored.Tie as tie
 
-cast-y : tie.Need-cast-y
-cast-y c = search needs
+cast-stored : tie.Need-cast-stored
+cast-stored c = search needs
 
 returns : tie.Need-returns
 unfolding mainStored
@@ -44,4 +44,4 @@ returns-4 c =
     )
 
 pub main-stored-spec : {M : Type 1} → statement M
-main-stored-spec = tie.close (tie.spec cast-y returns returns-2 kept-enable-requires returns-3 returns-4)
+main-stored-spec = tie.close (tie.spec cast-stored returns returns-2 kept-enable-requires returns-3 returns-4)

@@ -34,8 +34,8 @@ returns-2 c =
     let x = c .before .before in
     rw (← x .before .is-outside .ensures) (simp (x .if1 .left, ne-eqb _ _ (c .if2 .taken)))
 
-cast-k : tie.Need-cast-k
-cast-k c = omega (arith, ranged (c .before .before))
+cast-channel-number : tie.Need-cast-channel-number
+cast-channel-number c = omega (arith, ranged (c .before .before))
 
 channel-requires : tie.Need-channel-requires
 channel-requires c κs = search needs
@@ -64,7 +64,7 @@ frames-spec =
     cast-if2
     mul-if2
     returns-2
-    cast-k
+    cast-channel-number
     channel-requires
     ticks-channel-requires
     same-length

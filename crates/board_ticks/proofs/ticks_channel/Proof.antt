@@ -16,11 +16,11 @@ room c = part-within _ _ (c .before .before .before .pre .0) (c .part-start .ens
 part-start-requires : tie.Need-part-start-requires
 part-start-requires c κs = search needs
 
-mul-e : tie.Need-mul-e
-mul-e c = search needs
+mul-end : tie.Need-mul-end
+mul-end c = search needs
 
-add-e : tie.Need-add-e
-add-e c = omega (arith, room c)
+add-end : tie.Need-add-end
+add-end c = omega (arith, room c)
 
 mul-ticks : tie.Need-mul-ticks
 mul-ticks c = omega (arith, room c)
@@ -52,8 +52,8 @@ ticks-channel-spec =
     tie.close
     (tie.spec
     part-start-requires
-    mul-e
-    add-e
+    mul-end
+    add-end
     mul-ticks
     sub-ticks
     part-ticks-start

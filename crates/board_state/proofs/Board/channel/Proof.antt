@@ -15,8 +15,8 @@ four c = simp length-map at (c .good .0 .1 .1 .1 .1 .1 .1 .0 .1 .0 .1)
 zero-based-requires : tie.Need-zero-based-requires
 zero-based-requires c κs = search needs
 
-cast-i : tie.Need-cast-i
-cast-i c = search needs
+cast-index : tie.Need-cast-index
+cast-index c = search needs
 
 mul-result : tie.Need-mul-result
 mul-result c = search needs
@@ -38,7 +38,7 @@ channel-spec =
     tie.close
     (tie.spec
     zero-based-requires
-    cast-i
+    cast-index
     mul-result
     element-copy-out-result
     returns

@@ -15,21 +15,21 @@ four c = simp length-map at (c .good .0 .1 .1 .1 .1 .1 .1 .0 .1 .0 .1)
 zero-based-requires : tie.Need-zero-based-requires
 zero-based-requires c κs = search needs
 
-cast-i : tie.Need-cast-i
-cast-i c = search needs
+cast-index : tie.Need-cast-index
+cast-index c = search needs
 
-mul-c : tie.Need-mul-c
-mul-c c = search needs
+mul-channel : tie.Need-mul-channel
+mul-channel c = search needs
 
-element-set-from-c : tie.Need-element-set-from-c
-element-set-from-c c = search needs
+element-set-from-channel : tie.Need-element-set-from-channel
+element-set-from-channel c = search needs
 
 returns : tie.Need-returns
 returns c = simp (c .before .zero-based .ensures)
 
 returns-2 : tie.Need-returns-2
-returns-2 c = let s = c .before .before in sym (ap (withChannels (s .args .self)) (set-out (s .args .self .channels) (s .args .number - 1) (s .args .c) (omega (arith, four s, c .if1 .left, c .before .zero-based .ensures))))
+returns-2 c = let s = c .before .before in sym (ap (withChannels (s .args .self)) (set-out (s .args .self .channels) (s .args .number - 1) (s .args .channel) (omega (arith, four s, c .if1 .left, c .before .zero-based .ensures))))
 
 pub with-channel-spec : {M : Type 1} → statement M
 with-channel-spec =
-    tie.close (tie.spec zero-based-requires cast-i mul-c element-set-from-c returns returns-2)
+    tie.close (tie.spec zero-based-requires cast-index mul-channel element-set-from-channel returns returns-2)

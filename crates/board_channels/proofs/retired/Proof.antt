@@ -1,13 +1,13 @@
--- `board::retired` meets its contract: the empty part where the channel is out of range, and else what the channel gives. Assumes nothing.
-use Rattle.board.proofs.RetiredPart.{retired-part}
-use Rattle.board.proofs.retired.Statement.{statement}
-use Rattle.board.specs.Calls.{retiredWords}
+-- `board_channels::retired` meets its contract: the empty part where the channel is out of range, and else what the channel gives. Assumes nothing.
+use Rattle.board_channels.proofs.RetiredPart.{retired-part}
+use Rattle.board_channels.proofs.retired.Statement.{statement}
+use Rattle.board_channels.specs.Calls.{retiredWords}
 use Rattle.channel.proofs.Ranges.{inside}
 use borrow.Author.Needs.{needs}
 use denote.Ref.{now}
 use mathlib.Core.Path.{sym, _∙_}
 use native.Mathlib.Omega.{arith}
-use Rattle.board.proofs.retired.Tie as tie
+use Rattle.board_channels.proofs.retired.Tie as tie
 
 is-outside-requires : tie.Need-is-outside-requires
 is-outside-requires c κs = search needs

@@ -1,11 +1,11 @@
--- `board::set_armed` meets its contract: a channel out of range is refused, and else the named one is armed or disarmed. Assumes nothing.
-use Rattle.board.proofs.set_armed.Statement.{statement}
-use Rattle.board.specs.Calls.{setArmed, armAnswer}
+-- `board_channels::set_armed` meets its contract: a channel out of range is refused, and else the named one is armed or disarmed. Assumes nothing.
+use Rattle.board_channels.proofs.set_armed.Statement.{statement}
+use Rattle.board_channels.specs.Calls.{setArmed, armAnswer}
 use Rattle.channel.proofs.Ranges.{inside}
 use borrow.Author.Needs.{needs}
 use mathlib.Core.Path.{sym, _∙_}
 use native.Mathlib.Omega.{arith}
-use Rattle.board.proofs.set_armed.Tie as tie
+use Rattle.board_channels.proofs.set_armed.Tie as tie
 
 is-outside-requires : tie.Need-is-outside-requires
 is-outside-requires c κs = search needs
@@ -14,8 +14,8 @@ returns : tie.Need-returns
 unfolding setArmed armAnswer
 returns c = rw (← c .before .is-outside .ensures) (simp (c .if1 .taken), simp (c .if1 .taken))
 
-cast-k : tie.Need-cast-k
-cast-k c = omega (arith, inside 1 4 (c .before .before .args .number) (sym (c .before .is-outside .ensures) ∙ c .if1 .left))
+cast-channel-number : tie.Need-cast-channel-number
+cast-channel-number c = omega (arith, inside 1 4 (c .before .before .args .number) (sym (c .before .is-outside .ensures) ∙ c .if1 .left))
 
 channel-requires : tie.Need-channel-requires
 channel-requires c κs = search needs
@@ -40,7 +40,7 @@ set-armed-spec =
     (tie.spec
     is-outside-requires
     returns
-    cast-k
+    cast-channel-number
     channel-requires
     set-armed-requires
     with-channel-requires

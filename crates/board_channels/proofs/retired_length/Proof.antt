@@ -1,9 +1,9 @@
--- `board::retired_length` meets its contract: the lengths, then the channel, and else what the channel answers. Assumes nothing.
+-- `board_channels::retired_length` meets its contract: the lengths, then the channel, and else what the channel answers. Assumes nothing.
 use Prim.Native.Nat.{ℕ}
 use Rattle.board_state.specs.State.{channelAt}
 use Rattle.board_state.specs.declared.Board.{Board}
-use Rattle.board.proofs.retired_length.Statement.{statement}
-use Rattle.board.specs.Calls.{retiredLength, retiredWords}
+use Rattle.board_channels.proofs.retired_length.Statement.{statement}
+use Rattle.board_channels.specs.Calls.{retiredLength, retiredWords}
 use Rattle.channel.proofs.Ranges.{inside}
 use Rattle.channel.specs.Calls.{outside}
 use Rattle.channel_core.specs.declared.Channel.{Channel}
@@ -17,7 +17,7 @@ use mathlib.Core.List.{List}
 use mathlib.Core.Path.{_≡_, sym, ap, _∙_}
 use native.Mathlib.Omega.{arith}
 use Rattle.channel.specs.Calls as one
-use Rattle.board.proofs.retired_length.Tie as tie
+use Rattle.board_channels.proofs.retired_length.Tie as tie
 
 -- where the lengths and the channel are right, the board's answer is the channel's
 plain : (b : Board) (number : ℕ) (s t : List ℕ) → outside 1 4 number ≡ false → eqb (length s) (b .m) ≡ true → eqb (length t) (b .m) ≡ true

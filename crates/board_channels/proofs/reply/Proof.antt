@@ -1,7 +1,7 @@
--- `board::reply` meets its contract: the length, then the channel, then the channel's own reply over its part. Assumes nothing.
+-- `board_channels::reply` meets its contract: the length, then the channel, then the channel's own reply over its part. Assumes nothing.
 use Prim.Native.Nat.{_+_, _*_, _≤_}
-use Rattle.board.proofs.reply.Statement.{statement}
-use Rattle.board.specs.Calls.{replyBoard, replyAnswer, replyWords}
+use Rattle.board_channels.proofs.reply.Statement.{statement}
+use Rattle.board_channels.specs.Calls.{replyBoard, replyAnswer, replyWords}
 use Rattle.board_state.proofs.Parts.{part-within}
 use Rattle.channel.proofs.Ranges.{inside}
 use borrow.Author.Needs.{needs}
@@ -9,7 +9,7 @@ use borrow.Author.Tests.{eq-eqb, ne-eqb}
 use mathlib.Core.Path.{sym, _∙_}
 use native.Mathlib.Nat.{add-sub-cancel-left}
 use native.Mathlib.Omega.{arith}
-use Rattle.board.proofs.reply.Tie as tie
+use Rattle.board_channels.proofs.reply.Tie as tie
 
 -- the number is one of a channel, so the part lies within the memory
 ranged : (c : tie.Else2) → let number = c .before .before .before .before .args .number in (1 ≤ number) × (number ≤ 4)
@@ -41,8 +41,8 @@ returns-2 c =
     let long = eq-eqb _ _ (c .before .before .if1 .left) in
     rw (← c .before .is-outside .ensures) (simp (long, c .if2 .taken), simp (long, c .if2 .taken), simp (long, c .if2 .taken))
 
-cast-k : tie.Need-cast-k
-cast-k c = omega (arith, ranged c)
+cast-channel-number : tie.Need-cast-channel-number
+cast-channel-number c = omega (arith, ranged c)
 
 channel-requires : tie.Need-channel-requires
 channel-requires c κs = search needs
@@ -50,14 +50,14 @@ channel-requires c κs = search needs
 part-start-requires : tie.Need-part-start-requires
 part-start-requires c κs = search needs
 
-cast-e : tie.Need-cast-e
-cast-e c = search needs
+cast-end : tie.Need-cast-end
+cast-end c = search needs
 
-mul-e : tie.Need-mul-e
-mul-e c = search needs
+mul-end : tie.Need-mul-end
+mul-end c = search needs
 
-add-e : tie.Need-add-e
-add-e c = omega (arith, room c)
+add-end : tie.Need-add-end
+add-end c = omega (arith, room c)
 
 mul-reply : tie.Need-mul-reply
 mul-reply c = omega (arith, room c)
@@ -103,12 +103,12 @@ reply-spec =
     returns
     is-outside-requires
     returns-2
-    cast-k
+    cast-channel-number
     channel-requires
     part-start-requires
-    cast-e
-    mul-e
-    add-e
+    cast-end
+    mul-end
+    add-end
     mul-reply
     sub-reply
     part-reply-start
