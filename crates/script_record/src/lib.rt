@@ -28,7 +28,15 @@ pub fn open(
 fn open_again(block: &mut Block, setpoints: &[u32], readbacks: &[u32], record: Record) -> Board {
     let setpoint_length = (record.z % 65536) as usize;
     let readback_length = (record.z / 65536) as usize;
-    open(block, record.x, record.y, setpoints, setpoint_length, readbacks, readback_length)
+    open(
+        block,
+        record.x,
+        record.y,
+        setpoints,
+        setpoint_length,
+        readbacks,
+        readback_length,
+    )
 }
 
 fn write_setpoint(block: &mut Block, b: Board, words: &mut [u32], record: Record) -> Board {
@@ -78,8 +86,14 @@ fn pool_call(
 
 // Retired readbacks and their length: kinds 7, 8.
 fn retired_call(block: &mut Block, b: Board, readbacks: &[u32], record: Record) {
-    let one = pool::part(readbacks, lent::first_buffer(record.lent, b.m, record.channel));
-    let two = pool::part(readbacks, lent::second_buffer(record.lent, b.m, record.channel));
+    let one = pool::part(
+        readbacks,
+        lent::first_buffer(record.lent, b.m, record.channel),
+    );
+    let two = pool::part(
+        readbacks,
+        lent::second_buffer(record.lent, b.m, record.channel),
+    );
     if record.kind == 7 {
         printed_calls::retired(block, b, record.channel as u32, one, two);
     } else {
