@@ -4,18 +4,18 @@ use call_script::pool;
 use channel::Shown;
 use output::Block;
 
-fn value(block: &mut Block, v: u16) {
+fn value(block: &mut Block, contents: u16) {
     output::text(block, b" ");
-    output::hex_value(block, v);
+    output::hex_value(block, contents);
 }
 
 // A register's value; nothing at an address that is not read.
 fn register(block: &mut Block, b: Board, address: u32) -> Board {
-    let w = board_registers::read_register(b, address);
-    let board = w.board;
-    let shown = w.shown;
+    let read = board_registers::read_register(b, address);
+    let board = read.board;
+    let shown = read.shown;
     match shown {
-        Shown::Value(v) => value(block, v),
+        Shown::Value(contents) => value(block, contents),
         Shown::Refused(_) => {}
     }
     board
@@ -39,10 +39,10 @@ fn channel_line(block: &mut Block, b: Board, channel: u8) -> Board {
 }
 
 fn channel_lines(block: &mut Block, b: Board) -> Board {
-    let c = channel_line(block, b, 1);
-    let d = channel_line(block, c, 2);
-    let e = channel_line(block, d, 3);
-    channel_line(block, e, 4)
+    let first = channel_line(block, b, 1);
+    let second = channel_line(block, first, 2);
+    let third = channel_line(block, second, 3);
+    channel_line(block, third, 4)
 }
 
 fn main_line(block: &mut Block, b: Board) {
@@ -65,6 +65,6 @@ pub fn lines(block: &mut Block, b: Board, setpoints: &[u32], readbacks: &[u32]) 
     printed_calls::interrupt_level(block, b);
     retired(block, b, readbacks);
     output::end_line(block);
-    let c = channel_lines(block, b);
-    main_line(block, c);
+    let board = channel_lines(block, b);
+    main_line(block, board);
 }

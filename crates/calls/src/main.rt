@@ -10,19 +10,19 @@ use libc::STDIN_FILENO;
 use output::Block;
 
 // Opens the board of the header, and prints the answer as record 0.
-fn begin(block: &mut Block, h: Header, setpoints: &[u32], readbacks: &[u32]) -> Board {
+fn begin(block: &mut Block, header: Header, setpoints: &[u32], readbacks: &[u32]) -> Board {
     output::decimal(block, 0);
-    let b = script_record::open(
+    let board = script_record::open(
         block,
-        h.n,
-        h.m,
+        header.n,
+        header.m,
         setpoints,
-        h.n as usize * 64,
+        header.n as usize * 64,
         readbacks,
-        h.m as usize * 8,
+        header.m as usize * 8,
     );
     output::end_line(block);
-    b
+    board
 }
 
 // Every record of the script.
@@ -38,8 +38,8 @@ fn records(
     let mut number: u16 = 0;
     while number < count {
         number += 1;
-        let r = script::record_at(script, number);
-        board = script_record::line(block, board, setpoints, readbacks, r, number);
+        let record = script::record_at(script, number);
+        board = script_record::line(block, board, setpoints, readbacks, record, number);
     }
     board
 }
@@ -47,11 +47,11 @@ fn records(
 fn run(block: &mut Block, script: &[u8], count: u16) {
     let mut setpoints = [0u32; 2048];
     let mut readbacks = [0u32; 512];
-    let h = script::header_of(script);
-    pool::fill(&mut setpoints, &mut readbacks, h.seed, h.mask);
-    let b = begin(block, h, &setpoints, &readbacks);
-    let c = records(block, b, script, count, &mut setpoints, &mut readbacks);
-    ending::lines(block, c, &setpoints, &readbacks);
+    let header = script::header_of(script);
+    pool::fill(&mut setpoints, &mut readbacks, header.seed, header.mask);
+    let opened = begin(block, header, &setpoints, &readbacks);
+    let played = records(block, opened, script, count, &mut setpoints, &mut readbacks);
+    ending::lines(block, played, &setpoints, &readbacks);
 }
 
 fn bad(block: &mut Block) {
@@ -61,10 +61,10 @@ fn bad(block: &mut Block) {
 fn main() {
     let mut block = output::empty();
     let mut bytes = [0u8; 65537];
-    let n = io::read_full(STDIN_FILENO, &mut bytes);
-    let records = script::records_of(n);
+    let length = io::read_full(STDIN_FILENO, &mut bytes);
+    let records = script::records_of(length);
     match records {
-        Records::Count(k) => run(&mut block, &bytes[..n], k),
+        Records::Count(count) => run(&mut block, &bytes[..length], count),
         Records::Bad => bad(&mut block),
     }
     output::flush(&mut block);

@@ -45,7 +45,7 @@ fn capture(captured: &mut [u64], at: usize, id: u8, word: u32)
 
 // One tick, its frame put at its place.
 fn tick(
-    x: Progress,
+    progress: Progress,
     due: u32,
     n: u32,
     period: u32,
@@ -53,40 +53,40 @@ fn tick(
     at: usize,
     id: u8,
 ) -> Progress
-    requires { ⌜ x .frames < 4294967295 ⌝ }
-    ensures { λ r. ⌜ (r .status ≡ sendStatus (x .status) (ticked (x .sequencer) due n period .transmission)) × (r .sequencer ≡ ticked (x .sequencer) due n period .sequencer) × (r .frames ≡ x .frames + asNumber (ticked (x .sequencer) due n period .transmission)) × (now (captured .exit) ≡ withFrame (sendFrame id (ticked (x .sequencer) due n period .transmission)) at (now (captured .entry))) ⌝ }
+    requires { ⌜ progress .frames < 4294967295 ⌝ }
+    ensures { λ r. ⌜ (r .status ≡ sendStatus (progress .status) (ticked (progress .sequencer) due n period .transmission)) × (r .sequencer ≡ ticked (progress .sequencer) due n period .sequencer) × (r .frames ≡ progress .frames + asNumber (ticked (progress .sequencer) due n period .transmission)) × (now (captured .exit) ≡ withFrame (sendFrame id (ticked (progress .sequencer) due n period .transmission)) at (now (captured .entry))) ⌝ }
 {
-    let sequencer = x.sequencer;
-    let status = x.status;
-    let t = sequencer.tick(due, n, period);
-    let next = t.sequencer;
-    let sent = t.transmission;
+    let sequencer = progress.sequencer;
+    let status = progress.status;
+    let ticked = sequencer.tick(due, n, period);
+    let next = ticked.sequencer;
+    let sent = ticked.transmission;
     let latched = send_status(status, sent);
     match sent {
         Transmission::Nothing => Progress {
             status: latched,
             sequencer: next,
-            frames: x.frames,
+            frames: progress.frames,
         },
         Transmission::Word { word, condition: _ } => {
             capture(captured, at, id, word);
             Progress {
                 status: latched,
                 sequencer: next,
-                frames: x.frames + 1,
+                frames: progress.frames + 1,
             }
         }
     }
 }
 
 // So many quiet ticks.
-fn skip(x: Progress, k: u64) -> Progress
-    ensures { λ r. ⌜ (r .status ≡ x .status) × (r .sequencer ≡ afterQuiet (x .sequencer) k) × (r .frames ≡ x .frames) ⌝ }
+fn skip(progress: Progress, count: u64) -> Progress
+    ensures { λ r. ⌜ (r .status ≡ progress .status) × (r .sequencer ≡ afterQuiet (progress .sequencer) count) × (r .frames ≡ progress .frames) ⌝ }
 {
-    let sequencer = x.sequencer;
-    let mut y = x;
-    y.sequencer = quiet::after_quiet(sequencer, k);
-    y
+    let sequencer = progress.sequencer;
+    let mut next = progress;
+    next.sequencer = quiet::after_quiet(sequencer, count);
+    next
 }
 
 // A channel before the first of them.
@@ -103,17 +103,17 @@ fn begin(c: Channel) -> Progress
 }
 
 // A channel after the last of them.
-fn finish(c: Channel, x: Progress) -> Advanced
-    ensures { λ r. ⌜ (r .channel ≡ withSequencer (withStatus c (x .status)) (x .sequencer)) × (r .frames ≡ x .frames) ⌝ }
+fn finish(c: Channel, progress: Progress) -> Advanced
+    ensures { λ r. ⌜ (r .channel ≡ withSequencer (withStatus c (progress .status)) (progress .sequencer)) × (r .frames ≡ progress .frames) ⌝ }
 {
-    let status = x.status;
-    let sequencer = x.sequencer;
-    let mut d = c;
-    d.status = status;
-    d.sequencer = sequencer;
+    let status = progress.status;
+    let sequencer = progress.sequencer;
+    let mut next = c;
+    next.status = status;
+    next.sequencer = sequencer;
     Advanced {
-        channel: d,
-        frames: x.frames,
+        channel: next,
+        frames: progress.frames,
     }
 }
 
@@ -133,19 +133,19 @@ pub fn ticks(
     let at = registers::zero_based(user);
     let second = registers.second_active(user);
     let period = registers::period(registers.clock);
-    let mut x = begin(c);
-    let mut k: u32 = 0;
-    while k < count {
-        let sequencer = x.sequencer;
-        let quiet = least(quiet::quiet_ticks(sequencer), (count - k) as u64);
-        x = skip(x, quiet);
-        k += quiet as u32;
-        if k < count {
-            let ready = x.sequencer;
+    let mut progress = begin(c);
+    let mut done: u32 = 0;
+    while done < count {
+        let sequencer = progress.sequencer;
+        let quiet = least(quiet::quiet_ticks(sequencer), (count - done) as u64);
+        progress = skip(progress, quiet);
+        done += quiet as u32;
+        if done < count {
+            let ready = progress.sequencer;
             let due = word_at(setpoints, setpoint_place(at, second, n, ready.index));
-            x = tick(x, due, n, period, captured, k as usize, id);
-            k += 1;
+            progress = tick(progress, due, n, period, captured, done as usize, id);
+            done += 1;
         }
     }
-    finish(c, x)
+    finish(c, progress)
 }

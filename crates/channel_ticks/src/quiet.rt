@@ -7,38 +7,38 @@ ghost use Rattle.sequencer.specs.Playing.{withLeft};
 ghost use Rattle.channel_ticks.specs.Quiet.{quietTicks, afterQuiet};
 
 // A countdown so many ticks later.
-fn lowered(count: u64, k: u64) -> u64
-    ensures { λ r. ⌜ r ≡ count - k ⌝ }
+fn lowered(count: u64, ticks: u64) -> u64
+    ensures { λ r. ⌜ r ≡ count - ticks ⌝ }
 {
-    if k < count {
-        return count - k;
+    if ticks < count {
+        return count - ticks;
     }
     0
 }
 
 // The lesser of two.
-pub fn least(x: u64, y: u64) -> u64
-    ensures { λ r. ⌜ r ≡ min x y ⌝ }
+pub fn least(one: u64, other: u64) -> u64
+    ensures { λ r. ⌜ r ≡ min one other ⌝ }
 {
-    if x < y {
-        return x;
+    if one < other {
+        return one;
     }
-    y
+    other
 }
 
 // How many of the next ticks only count down, at the least.
-pub fn quiet_ticks(s: Sequencer) -> u64
-    ensures { λ r. ⌜ r ≡ quietTicks s ⌝ }
+pub fn quiet_ticks(sequencer: Sequencer) -> u64
+    ensures { λ r. ⌜ r ≡ quietTicks sequencer ⌝ }
 {
-    let stage = s.stage;
-    let left = s.left;
+    let stage = sequencer.stage;
+    let left = sequencer.left;
     match stage {
         Stage::Idle => 0xffff_ffff,
         Stage::Starting => lowered(left, 1),
         Stage::Running => lowered(left, 1),
         Stage::Paused(_) => lowered(left, 1),
         Stage::Resuming => {
-            let resume = s.resume;
+            let resume = sequencer.resume;
             if resume <= 10 {
                 return lowered(resume, 1);
             }
@@ -49,35 +49,35 @@ pub fn quiet_ticks(s: Sequencer) -> u64
 }
 
 // The countdown to the next send so many ticks later.
-fn left_lowered(s: Sequencer, k: u64) -> Sequencer
-    ensures { λ r. ⌜ r ≡ withLeft s (s .left - k) ⌝ }
+fn left_lowered(sequencer: Sequencer, ticks: u64) -> Sequencer
+    ensures { λ r. ⌜ r ≡ withLeft sequencer (sequencer .left - ticks) ⌝ }
 {
-    let mut t = s;
-    let left = lowered(t.left, k);
-    t.left = left;
-    t
+    let mut next = sequencer;
+    let left = lowered(next.left, ticks);
+    next.left = left;
+    next
 }
 
 // The state so many quiet ticks later.
-pub fn after_quiet(s: Sequencer, k: u64) -> Sequencer
-    ensures { λ r. ⌜ r ≡ afterQuiet s k ⌝ }
+pub fn after_quiet(sequencer: Sequencer, ticks: u64) -> Sequencer
+    ensures { λ r. ⌜ r ≡ afterQuiet sequencer ticks ⌝ }
 {
-    let stage = s.stage;
+    let stage = sequencer.stage;
     match stage {
-        Stage::Idle => s,
-        Stage::Starting => left_lowered(s, k),
-        Stage::Running => left_lowered(s, k),
-        Stage::Paused(_) => left_lowered(s, k),
+        Stage::Idle => sequencer,
+        Stage::Starting => left_lowered(sequencer, ticks),
+        Stage::Running => left_lowered(sequencer, ticks),
+        Stage::Paused(_) => left_lowered(sequencer, ticks),
         Stage::Resuming => {
-            let resume = s.resume;
-            let later = lowered(resume, k);
-            let mut t = s;
-            t.resume = later;
+            let resume = sequencer.resume;
+            let later = lowered(resume, ticks);
+            let mut next = sequencer;
+            next.resume = later;
             if resume <= 10 {
-                return t;
+                return next;
             }
-            left_lowered(t, k)
+            left_lowered(next, ticks)
         }
-        Stage::Ended => left_lowered(s, k),
+        Stage::Ended => left_lowered(sequencer, ticks),
     }
 }

@@ -20,32 +20,32 @@ pub enum Decoded {
 const GENERATOR: u16 = 0x1b3;
 
 // The CRC of one byte. The only place where a remainder is worked out.
-fn byte_crc(b: u8) -> u8
-    ensures { λ r. ⌜ r ≡ crcOf b ⌝ }
+fn byte_crc(byte: u8) -> u8
+    ensures { λ r. ⌜ r ≡ crcOf byte ⌝ }
 {
-    let mut t = b as u16;
-    let mut k: usize = 0;
-    while k < 8 {
-        t = t * 2;
-        if t >= 256 {
-            t = t ^ GENERATOR;
+    let mut remainder = byte as u16;
+    let mut i: usize = 0;
+    while i < 8 {
+        remainder = remainder * 2;
+        if remainder >= 256 {
+            remainder = remainder ^ GENERATOR;
         }
-        k += 1;
+        i += 1;
     }
-    t as u8
+    remainder as u8
 }
 
 // The CRC of a message of any length.
-pub fn crc(s: &[u8]) -> u8
-    ensures { λ r. ⌜ r ≡ crcOf (ofBytes (now (s .entry))) ⌝ }
+pub fn crc(message: &[u8]) -> u8
+    ensures { λ r. ⌜ r ≡ crcOf (ofBytes (now (message .entry))) ⌝ }
 {
-    let mut r: u8 = 0;
+    let mut remainder: u8 = 0;
     let mut i: usize = 0;
-    while i < s.len() {
-        r = byte_crc(r ^ s[i]);
+    while i < message.len() {
+        remainder = byte_crc(remainder ^ message[i]);
         i += 1;
     }
-    r
+    remainder
 }
 
 // The CRC of the 32 middle bits of a frame.

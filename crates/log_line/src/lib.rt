@@ -17,71 +17,71 @@ fn put(out: &mut [u8], at: usize, byte: u8) -> usize
     at + 1
 }
 
-fn put_digit(out: &mut [u8], at: usize, power: u32, n: u32) -> usize
+fn put_digit(out: &mut [u8], at: usize, power: u32, number: u32) -> usize
     requires { ⌜ (at < length (now out)) × (0 < power) ⌝ }
-    ensures { λ r. ⌜ (at ≤ r) × (r ≤ at + 1) × (take r (now (out .exit)) ≡ take at (now (out .entry)) ++ digit power n) ⌝ }
+    ensures { λ r. ⌜ (at ≤ r) × (r ≤ at + 1) × (take r (now (out .exit)) ≡ take at (now (out .entry)) ++ digit power number) ⌝ }
 {
-    if n < power {
+    if number < power {
         return at;
     }
-    put(out, at, 48 + (n / power % 10) as u8)
+    put(out, at, 48 + (number / power % 10) as u8)
 }
 
 // The digits from 10^9 down to 10^5, then those from 10^4 down.
-fn put_high(out: &mut [u8], at: usize, n: u32) -> usize
+fn put_high(out: &mut [u8], at: usize, number: u32) -> usize
     requires { ⌜ at + 5 ≤ length (now out) ⌝ }
-    ensures { λ r. ⌜ (at ≤ r) × (r ≤ at + 5) × (take r (now (out .exit)) ≡ take at (now (out .entry)) ++ high n) ⌝ }
+    ensures { λ r. ⌜ (at ≤ r) × (r ≤ at + 5) × (take r (now (out .exit)) ≡ take at (now (out .entry)) ++ high number) ⌝ }
 {
-    let a = put_digit(out, at, 1000000000, n);
-    let b = put_digit(out, a, 100000000, n);
-    let c = put_digit(out, b, 10000000, n);
-    let d = put_digit(out, c, 1000000, n);
-    put_digit(out, d, 100000, n)
+    let first = put_digit(out, at, 1000000000, number);
+    let second = put_digit(out, first, 100000000, number);
+    let third = put_digit(out, second, 10000000, number);
+    let fourth = put_digit(out, third, 1000000, number);
+    put_digit(out, fourth, 100000, number)
 }
 
-fn put_low(out: &mut [u8], at: usize, n: u32) -> usize
+fn put_low(out: &mut [u8], at: usize, number: u32) -> usize
     requires { ⌜ at + 5 ≤ length (now out) ⌝ }
-    ensures { λ r. ⌜ (at ≤ r) × (r ≤ at + 5) × (take r (now (out .exit)) ≡ take at (now (out .entry)) ++ low n) ⌝ }
+    ensures { λ r. ⌜ (at ≤ r) × (r ≤ at + 5) × (take r (now (out .exit)) ≡ take at (now (out .entry)) ++ low number) ⌝ }
 {
-    let a = put_digit(out, at, 10000, n);
-    let b = put_digit(out, a, 1000, n);
-    let c = put_digit(out, b, 100, n);
-    let d = put_digit(out, c, 10, n);
-    put(out, d, 48 + (n % 10) as u8)
+    let first = put_digit(out, at, 10000, number);
+    let second = put_digit(out, first, 1000, number);
+    let third = put_digit(out, second, 100, number);
+    let fourth = put_digit(out, third, 10, number);
+    put(out, fourth, 48 + (number % 10) as u8)
 }
 
-fn put_number(out: &mut [u8], at: usize, n: u32) -> usize
+fn put_number(out: &mut [u8], at: usize, number: u32) -> usize
     requires { ⌜ at + 10 ≤ length (now out) ⌝ }
-    ensures { λ r. ⌜ (at ≤ r) × (r ≤ at + 10) × (take r (now (out .exit)) ≡ take at (now (out .entry)) ++ decimal n) ⌝ }
+    ensures { λ r. ⌜ (at ≤ r) × (r ≤ at + 10) × (take r (now (out .exit)) ≡ take at (now (out .entry)) ++ decimal number) ⌝ }
 {
-    let a = put_high(out, at, n);
-    put_low(out, a, n)
+    let after_high = put_high(out, at, number);
+    put_low(out, after_high, number)
 }
 
 fn put_text(out: &mut [u8], at: usize, text: &[u8]) -> usize
     requires { ⌜ at + length (now text) ≤ length (now out) ⌝ }
     ensures { λ r. ⌜ (r ≡ at + length (now (text .entry))) × (take r (now (out .exit)) ≡ take at (now (out .entry)) ++ now (text .entry)) ⌝ }
 {
-    let mut k: usize = 0;
-    let mut o = at;
-    while k < text.len() {
-        o = put(out, o, text[k]);
-        k += 1;
+    let mut i: usize = 0;
+    let mut place = at;
+    while i < text.len() {
+        place = put(out, place, text[i]);
+        i += 1;
     }
-    o
+    place
 }
 
-fn put_frames(out: &mut [u8], at: usize, c: Counts) -> usize
+fn put_frames(out: &mut [u8], at: usize, counts: Counts) -> usize
     requires { ⌜ at + 43 ≤ length (now out) ⌝ }
-    ensures { λ r. ⌜ (at ≤ r) × (r ≤ at + 43) × (take r (now (out .exit)) ≡ take at (now (out .entry)) ++ frameCounts c) ⌝ }
+    ensures { λ r. ⌜ (at ≤ r) × (r ≤ at + 43) × (take r (now (out .exit)) ≡ take at (now (out .entry)) ++ frameCounts counts) ⌝ }
 {
-    let p = put_number(out, at, c.first);
-    let q = put(out, p, b' ');
-    let r = put_number(out, q, c.second);
-    let s = put(out, r, b' ');
-    let t = put_number(out, s, c.third);
-    let u = put(out, t, b' ');
-    put_number(out, u, c.fourth)
+    let first_end = put_number(out, at, counts.first);
+    let second_at = put(out, first_end, b' ');
+    let second_end = put_number(out, second_at, counts.second);
+    let third_at = put(out, second_end, b' ');
+    let third_end = put_number(out, third_at, counts.third);
+    let fourth_at = put(out, third_end, b' ');
+    put_number(out, fourth_at, counts.fourth)
 }
 
 // Writes the line, with no line end, and answers its length.
@@ -89,17 +89,17 @@ pub fn write_line(out: &mut [u8; 96], ran: Ran) -> usize
     ensures { λ r. ⌜ Fills r (now (out .exit)) (logLine (ranOf ran)) ⌝ }
 {
     match ran {
-        Ran::Counted(c) => {
-            let p = put_text(out, 0, b"steps ");
-            let q = put_number(out, p, c.steps);
-            let r = put_text(out, q, b" refused ");
-            let s = put_number(out, r, c.refused);
-            let t = put_text(out, s, b" frames ");
-            put_frames(out, t, c)
+        Ran::Counted(counts) => {
+            let steps_at = put_text(out, 0, b"steps ");
+            let steps_end = put_number(out, steps_at, counts.steps);
+            let refused_at = put_text(out, steps_end, b" refused ");
+            let refused_end = put_number(out, refused_at, counts.refused);
+            let frames_at = put_text(out, refused_end, b" frames ");
+            put_frames(out, frames_at, counts)
         }
-        Ran::Refused(k) => {
-            let p = put_text(out, 0, b"file ");
-            put_number(out, p, refusal::number(k) as u32)
+        Ran::Refused(reason) => {
+            let number_at = put_text(out, 0, b"file ");
+            put_number(out, number_at, refusal::number(reason) as u32)
         }
     }
 }

@@ -30,19 +30,19 @@ fn count(block: &Block) -> usize
     bytes[8192] as usize * 256 + bytes[8193] as usize
 }
 
-fn set_count(block: &mut Block, n: usize)
-    requires { ⌜ n < 65536 ⌝ }
-    ensures { λ _. ⌜ now (block .exit) ≡ withCount (now (block .entry)) n ⌝ }
+fn set_count(block: &mut Block, count: usize)
+    requires { ⌜ count < 65536 ⌝ }
+    ensures { λ _. ⌜ now (block .exit) ≡ withCount (now (block .entry)) count ⌝ }
 {
-    block[8192] = (n / 256) as u8;
-    block[8193] = (n % 256) as u8;
+    block[8192] = (count / 256) as u8;
+    block[8193] = (count % 256) as u8;
 }
 
 // Writes the first bytes, and says whether that went well.
-fn write(bytes: &[u8], n: usize) -> bool
-    requires { ⌜ n ≤ length (now bytes) ⌝ }
+fn write(bytes: &[u8], count: usize) -> bool
+    requires { ⌜ count ≤ length (now bytes) ⌝ }
 {
-    io::write_all(STDOUT_FILENO, &bytes[..n])
+    io::write_all(STDOUT_FILENO, &bytes[..count])
 }
 
 // After a write: nothing is gathered any more, and if the write failed the block is closed.
@@ -60,9 +60,9 @@ fn settle(block: &mut Block, went_well: bool)
 pub fn flush(block: &mut Block)
     ensures { λ _. ⌜ Flushed (now (block .entry)) (now (block .exit)) ⌝ }
 {
-    let n = count(block);
-    if n <= ROOM {
-        let went_well = write(block, n);
+    let gathered = count(block);
+    if gathered <= ROOM {
+        let went_well = write(block, gathered);
         settle(block, went_well);
     }
 }
@@ -76,14 +76,14 @@ fn make_room(block: &mut Block)
     }
 }
 
-fn byte(block: &mut Block, x: u8)
-    ensures { λ _. ⌜ Prints (now (block .entry)) (now (block .exit)) (x ∷ []) ⌝ }
+fn byte(block: &mut Block, byte: u8)
+    ensures { λ _. ⌜ Prints (now (block .entry)) (now (block .exit)) (byte ∷ []) ⌝ }
 {
     make_room(block);
-    let n = count(block);
-    if n < ROOM {
-        block[n] = x;
-        set_count(block, n + 1);
+    let gathered = count(block);
+    if gathered < ROOM {
+        block[gathered] = byte;
+        set_count(block, gathered + 1);
     }
 }
 
@@ -98,27 +98,27 @@ fn across(block: &mut Block, bytes: &[u8])
     }
 }
 
-// Bytes for which there is room, after n that are gathered.
-fn put(block: &mut Block, n: usize, bytes: &[u8])
-    requires { ⌜ Counted n (now block) ⌝ }
-    requires { ⌜ n + length (now bytes) ≤ 8192 ⌝ }
+// Bytes for which there is room, after those that are gathered.
+fn put(block: &mut Block, gathered: usize, bytes: &[u8])
+    requires { ⌜ Counted gathered (now block) ⌝ }
+    requires { ⌜ gathered + length (now bytes) ≤ 8192 ⌝ }
     ensures { λ _. ⌜ Prints (now (block .entry)) (now (block .exit)) (now (bytes .entry)) ⌝ }
 {
     let mut i: usize = 0;
     while i < bytes.len() {
-        block[n + i] = bytes[i];
+        block[gathered + i] = bytes[i];
         i += 1;
     }
-    set_count(block, n + bytes.len());
+    set_count(block, gathered + bytes.len());
 }
 
 // Prints these bytes.
 pub fn text(block: &mut Block, bytes: &[u8])
     ensures { λ _. ⌜ Prints (now (block .entry)) (now (block .exit)) (now (bytes .entry)) ⌝ }
 {
-    let n = count(block);
-    if n + bytes.len() <= ROOM {
-        put(block, n, bytes);
+    let gathered = count(block);
+    if gathered + bytes.len() <= ROOM {
+        put(block, gathered, bytes);
     } else {
         across(block, bytes);
     }

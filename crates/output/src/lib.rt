@@ -17,81 +17,81 @@ pub fn end_line(block: &mut Block)
     text(block, b"\n");
 }
 
-pub fn decimal(block: &mut Block, x: u64)
-    ensures { λ _. ⌜ PrintsNumber (now (block .entry)) (now (block .exit)) [] x ⌝ }
+pub fn decimal(block: &mut Block, number: u64)
+    ensures { λ _. ⌜ PrintsNumber (now (block .entry)) (now (block .exit)) [] number ⌝ }
 {
     let mut digits = [0u8; 20];
-    let k = io::decimal(x, &mut digits);
-    text(block, &digits[..k]);
+    let length = io::decimal(number, &mut digits);
+    text(block, &digits[..length]);
 }
 
 // Words and a number after them.
-pub fn numbered(block: &mut Block, bytes: &[u8], x: u64)
-    ensures { λ _. ⌜ PrintsNumber (now (block .entry)) (now (block .exit)) (now (bytes .entry)) x ⌝ }
+pub fn numbered(block: &mut Block, bytes: &[u8], number: u64)
+    ensures { λ _. ⌜ PrintsNumber (now (block .entry)) (now (block .exit)) (now (bytes .entry)) number ⌝ }
 {
     text(block, bytes);
-    decimal(block, x);
+    decimal(block, number);
 }
 
 // The lowest hexadecimal digit of a number, upper-case.
-fn hex_digit(x: u64) -> u8
-    ensures { λ r. ⌜ r ≡ hexDigit (x % 16) ⌝ }
+fn hex_digit(number: u64) -> u8
+    ensures { λ r. ⌜ r ≡ hexDigit (number % 16) ⌝ }
 {
-    let d = (x % 16) as u8;
-    if d < 10 {
-        return 48 + d;
+    let digit = (number % 16) as u8;
+    if digit < 10 {
+        return 48 + digit;
     }
-    55 + d
+    55 + digit
 }
 
 // The lowest four digits of a number, and the lowest eight.
-fn hex_four(block: &mut Block, x: u64)
-    ensures { λ _. ⌜ Prints (now (block .entry)) (now (block .exit)) (hexOf 4 x) ⌝ }
+fn hex_four(block: &mut Block, number: u64)
+    ensures { λ _. ⌜ Prints (now (block .entry)) (now (block .exit)) (hexOf 4 number) ⌝ }
 {
-    let a = hex_digit(x / 4096);
-    let b = hex_digit(x / 256);
-    let c = hex_digit(x / 16);
-    let d = hex_digit(x);
-    text(block, &[a, b, c, d]);
+    let first = hex_digit(number / 4096);
+    let second = hex_digit(number / 256);
+    let third = hex_digit(number / 16);
+    let fourth = hex_digit(number);
+    text(block, &[first, second, third, fourth]);
 }
 
-fn hex_eight(block: &mut Block, x: u64)
-    ensures { λ _. ⌜ Prints (now (block .entry)) (now (block .exit)) (hexOf 8 x) ⌝ }
+fn hex_eight(block: &mut Block, number: u64)
+    ensures { λ _. ⌜ Prints (now (block .entry)) (now (block .exit)) (hexOf 8 number) ⌝ }
 {
-    hex_four(block, x / 0x1_0000);
-    hex_four(block, x);
+    hex_four(block, number / 0x1_0000);
+    hex_four(block, number);
 }
 
 // A register's value: four digits.
-pub fn hex_value(block: &mut Block, x: u16)
-    ensures { λ _. ⌜ Prints (now (block .entry)) (now (block .exit)) (hexOf 4 x) ⌝ }
+pub fn hex_value(block: &mut Block, value: u16)
+    ensures { λ _. ⌜ Prints (now (block .entry)) (now (block .exit)) (hexOf 4 value) ⌝ }
 {
-    hex_four(block, x as u64);
+    hex_four(block, value as u64);
 }
 
 // A word of lent memory: eight.
-pub fn hex_word(block: &mut Block, x: u32)
-    ensures { λ _. ⌜ Prints (now (block .entry)) (now (block .exit)) (hexOf 8 x) ⌝ }
+pub fn hex_word(block: &mut Block, word: u32)
+    ensures { λ _. ⌜ Prints (now (block .entry)) (now (block .exit)) (hexOf 8 word) ⌝ }
 {
-    hex_eight(block, x as u64);
+    hex_eight(block, word as u64);
 }
 
 // A frame: eleven.
-pub fn hex_frame(block: &mut Block, x: u64)
-    ensures { λ _. ⌜ Prints (now (block .entry)) (now (block .exit)) (hexOf 11 x) ⌝ }
+pub fn hex_frame(block: &mut Block, frame: u64)
+    ensures { λ _. ⌜ Prints (now (block .entry)) (now (block .exit)) (hexOf 11 frame) ⌝ }
 {
-    let high = x / 0x1_0000_0000;
-    let a = hex_digit(high / 256);
-    let b = hex_digit(high / 16);
-    let c = hex_digit(high);
-    text(block, &[a, b, c]);
-    hex_eight(block, x);
+    let high = frame / 0x1_0000_0000;
+    let first = hex_digit(high / 256);
+    let second = hex_digit(high / 16);
+    let third = hex_digit(high);
+    text(block, &[first, second, third]);
+    hex_eight(block, frame);
 }
 
 // A digest: sixteen.
-pub fn hex_digest(block: &mut Block, x: u64)
-    ensures { λ _. ⌜ Prints (now (block .entry)) (now (block .exit)) (hexOf 16 x) ⌝ }
+pub fn hex_digest(block: &mut Block, digest: u64)
+    ensures { λ _. ⌜ Prints (now (block .entry)) (now (block .exit)) (hexOf 16 digest) ⌝ }
 {
-    hex_eight(block, x / 0x1_0000_0000);
-    hex_eight(block, x);
+    hex_eight(block, digest / 0x1_0000_0000);
+    hex_eight(block, digest);
 }

@@ -14,43 +14,43 @@ pub fn ok(block: &mut Block) {
     output::text(block, b" ok");
 }
 
-pub fn refused(block: &mut Block, k: Refusal) {
-    output::numbered(block, b" refused ", refusal::number(k) as u64);
+pub fn refused(block: &mut Block, reason: Refusal) {
+    output::numbered(block, b" refused ", refusal::number(reason) as u64);
 }
 
-fn outcome(block: &mut Block, o: Outcome) {
-    match o {
+fn outcome(block: &mut Block, answer: Outcome) {
+    match answer {
         Outcome::Done => ok(block),
-        Outcome::Refused(k) => refused(block, k),
+        Outcome::Refused(reason) => refused(block, reason),
     }
 }
 
-fn value(block: &mut Block, v: u16) {
+fn value(block: &mut Block, contents: u16) {
     output::text(block, b" value ");
-    output::hex_value(block, v);
+    output::hex_value(block, contents);
 }
 
-fn shown(block: &mut Block, s: Shown) {
-    match s {
-        Shown::Value(v) => value(block, v),
-        Shown::Refused(k) => refused(block, k),
+fn shown(block: &mut Block, answer: Shown) {
+    match answer {
+        Shown::Value(contents) => value(block, contents),
+        Shown::Refused(reason) => refused(block, reason),
     }
 }
 
-fn receipt(block: &mut Block, r: Receipt) {
-    match r {
+fn receipt(block: &mut Block, answer: Receipt) {
+    match answer {
         Receipt::Kept => output::text(block, b" kept"),
         Receipt::Lost => output::text(block, b" lost"),
         Receipt::Unsolicited => output::text(block, b" unasked"),
-        Receipt::Refused(k) => refused(block, k),
+        Receipt::Refused(reason) => refused(block, reason),
     }
 }
 
 // Prints the outcome, and hands on the board after the call.
-fn done(block: &mut Block, w: Written) -> Board {
-    let board = w.board;
-    let o = w.outcome;
-    outcome(block, o);
+fn done(block: &mut Block, written: Written) -> Board {
+    let board = written.board;
+    let answer = written.outcome;
+    outcome(block, answer);
     board
 }
 
@@ -72,10 +72,10 @@ pub fn write_register(
 }
 
 pub fn read_register(block: &mut Block, b: Board, address: u32) -> Board {
-    let w = board_registers::read_register(b, address);
-    let board = w.board;
-    let s = w.shown;
-    shown(block, s);
+    let read = board_registers::read_register(b, address);
+    let board = read.board;
+    let answer = read.shown;
+    shown(block, answer);
     board
 }
 
@@ -105,17 +105,17 @@ pub fn disarm(block: &mut Block, b: Board, number: u32) -> Board {
 }
 
 pub fn reply(block: &mut Block, b: Board, readbacks: &mut [u32], number: u32, frame: u64) -> Board {
-    let w = board_channels::reply(b, readbacks, number, frame);
-    let board = w.board;
-    let r = w.receipt;
-    receipt(block, r);
+    let received = board_channels::reply(b, readbacks, number, frame);
+    let board = received.board;
+    let answer = received.receipt;
+    receipt(block, answer);
     board
 }
 
 // A word of a part.
-fn word(block: &mut Block, w: u32) {
+fn word(block: &mut Block, word: u32) {
     output::text(block, b" ");
-    output::hex_word(block, w);
+    output::hex_word(block, word);
 }
 
 fn words(block: &mut Block, part: &[u32]) {
@@ -140,8 +140,8 @@ pub fn retired_length<'a>(
 ) {
     let length = board_channels::retired_length(b, number, one, two);
     match length {
-        PartLength::Words(n) => output::numbered(block, b" length ", n as u64),
-        PartLength::Refused(k) => refused(block, k),
+        PartLength::Words(count) => output::numbered(block, b" length ", count as u64),
+        PartLength::Refused(reason) => refused(block, reason),
     }
 }
 
@@ -151,7 +151,7 @@ fn retired_count(block: &mut Block, b: Board, readbacks: &[u32], channel: u8, wo
     let two = pool::part(readbacks, lent::second_buffer(0, b.m, channel));
     let length = board_channels::retired_length(b, channel as u32, one, two);
     match length {
-        PartLength::Words(n) => output::numbered(block, words, n as u64),
+        PartLength::Words(count) => output::numbered(block, words, count as u64),
         PartLength::Refused(_) => {}
     }
 }

@@ -9,12 +9,12 @@ ghost use Prim.Native.Nat.{_<_, _≤_};
 // The frames of a channel in some ticks, each at the place of its tick; 0 is none, since every frame ends in two stop bits.
 type Captured = [u64; 128];
 
-fn frame(block: &mut Block, tick: u64, channel: u64, x: u64) {
-    if x != 0 {
+fn frame(block: &mut Block, tick: u64, channel: u64, frame: u64) {
+    if frame != 0 {
         output::numbered(block, b" ", tick);
         output::numbered(block, b":", channel);
         output::text(block, b":");
-        output::hex_frame(block, x);
+        output::hex_frame(block, frame);
     }
 }
 
@@ -23,21 +23,21 @@ fn by_tick(
     block: &mut Block,
     before: u32,
     count: u32,
-    one: &Captured,
-    two: &Captured,
-    three: &Captured,
-    four: &Captured,
+    first: &Captured,
+    second: &Captured,
+    third: &Captured,
+    fourth: &Captured,
 )
     requires { ⌜ count ≤ 128 ⌝ }
 {
-    let mut k: usize = 0;
-    while k < count as usize {
-        let tick = before as u64 + k as u64 + 1;
-        frame(block, tick, 1, one[k]);
-        frame(block, tick, 2, two[k]);
-        frame(block, tick, 3, three[k]);
-        frame(block, tick, 4, four[k]);
-        k += 1;
+    let mut i: usize = 0;
+    while i < count as usize {
+        let tick = before as u64 + i as u64 + 1;
+        frame(block, tick, 1, first[i]);
+        frame(block, tick, 2, second[i]);
+        frame(block, tick, 3, third[i]);
+        frame(block, tick, 4, fourth[i]);
+        i += 1;
     }
 }
 
@@ -45,15 +45,15 @@ fn by_tick(
 fn frames(block: &mut Block, b: Board, setpoints: &[u32], before: u32, count: u32)
     requires { ⌜ count ≤ 128 ⌝ }
 {
-    let mut one = [0u64; 128];
-    let mut two = [0u64; 128];
-    let mut three = [0u64; 128];
-    let mut four = [0u64; 128];
-    board_ticks::frames(b, setpoints, 1, count, &mut one);
-    board_ticks::frames(b, setpoints, 2, count, &mut two);
-    board_ticks::frames(b, setpoints, 3, count, &mut three);
-    board_ticks::frames(b, setpoints, 4, count, &mut four);
-    by_tick(block, before, count, &one, &two, &three, &four);
+    let mut first = [0u64; 128];
+    let mut second = [0u64; 128];
+    let mut third = [0u64; 128];
+    let mut fourth = [0u64; 128];
+    board_ticks::frames(b, setpoints, 1, count, &mut first);
+    board_ticks::frames(b, setpoints, 2, count, &mut second);
+    board_ticks::frames(b, setpoints, 3, count, &mut third);
+    board_ticks::frames(b, setpoints, 4, count, &mut fourth);
+    by_tick(block, before, count, &first, &second, &third, &fourth);
 }
 
 // How many of so many ticks only count down.
@@ -78,8 +78,8 @@ fn at_once(quiet: u32, rest: u32) -> u32
 }
 
 fn after(b: Board, setpoints: &[u32], count: u32) -> Board {
-    let x = board_ticks::ticks(b, setpoints, count);
-    let board = x.board;
+    let advanced = board_ticks::ticks(b, setpoints, count);
+    let board = advanced.board;
     board
 }
 
@@ -89,12 +89,12 @@ fn each_tick(block: &mut Block, b: Board, setpoints: &[u32], count: u32) -> Boar
     let mut before: u32 = 0;
     while before < count {
         let quiet = quiet_of(board, count - before);
-        let n = at_once(quiet, count - before);
+        let batch = at_once(quiet, count - before);
         if quiet == 0 {
-            frames(block, board, setpoints, before, n);
+            frames(block, board, setpoints, before, batch);
         }
-        board = after(board, setpoints, n);
-        before += n;
+        board = after(board, setpoints, batch);
+        before += batch;
     }
     board
 }
@@ -109,12 +109,12 @@ pub fn ticks(block: &mut Block, b: Board, setpoints: &[u32], count: u32) -> Boar
     if count == 0 {
         return taken(block, b, setpoints, 0);
     }
-    let w = board::tick(b, setpoints);
-    let frames = w.frames;
+    let trial = board::tick(b, setpoints);
+    let frames = trial.frames;
     match frames {
         Frames::Each(_, _, _, _) => taken(block, b, setpoints, count),
-        Frames::Refused(k) => {
-            printed_calls::refused(block, k);
+        Frames::Refused(reason) => {
+            printed_calls::refused(block, reason);
             b
         }
     }

@@ -81,12 +81,12 @@ fn delay_shown(offset: u16, delay: u32) -> u16
 }
 
 // One of sixteen bits, and false past the last.
-fn flag_at(a: [bool; 16], i: u8) -> bool
-    ensures { λ r. ⌜ r ≡ getD a i false ⌝ }
+fn flag_at(flags: [bool; 16], index: u8) -> bool
+    ensures { λ r. ⌜ r ≡ getD flags index false ⌝ }
 {
-    let at = i as usize;
+    let at = index as usize;
     if at < 16 {
-        return a[at];
+        return flags[at];
     }
     false
 }
@@ -95,15 +95,15 @@ fn flag_at(a: [bool; 16], i: u8) -> bool
 fn flipped(active: [bool; 16], switches: [bool; 8]) -> [bool; 16]
     ensures { λ r. ⌜ r ≡ flips active switches ⌝ }
 {
-    let mut a = active;
+    let mut switched = active;
     let mut i: usize = 0;
     while i < 8 {
         if switches[i] {
-            a[i] = !a[i];
+            switched[i] = !switched[i];
         }
         i += 1;
     }
-    a
+    switched
 }
 
 impl Registers {
@@ -126,9 +126,9 @@ impl Registers {
         ensures { λ r. ⌜ r ≡ triggersOf self event code ⌝ }
     {
         let at = event as usize;
-        let e = self.events;
+        let events = self.events;
         if at < 6 {
-            return holds(e[at], code);
+            return holds(events[at], code);
         }
         false
     }
@@ -138,9 +138,9 @@ impl Registers {
         ensures { λ r. ⌜ r ≡ delayOf self bank user ⌝ }
     {
         let at = bank as usize * 8 + zero_based(user) as usize;
-        let d = self.delays;
+        let delays = self.delays;
         if at < 40 {
-            return d[at];
+            return delays[at];
         }
         0
     }
@@ -149,54 +149,54 @@ impl Registers {
     pub fn second_active(self, user: u8) -> bool
         ensures { λ r. ⌜ r ≡ secondActive self (user - 1) ⌝ }
     {
-        let a = self.active;
-        flag_at(a, zero_based(user))
+        let active = self.active;
+        flag_at(active, zero_based(user))
     }
 
     // Whether buffer 2 is the active one of the readback buffers.
     pub fn readback_second_active(self) -> bool
         ensures { λ r. ⌜ r ≡ secondActive self 8 ⌝ }
     {
-        let a = self.active;
-        flag_at(a, 8)
+        let active = self.active;
+        flag_at(active, 8)
     }
 
     // A value written at an offset that holds it.
     pub fn stored(self, offset: u16, value: u16) -> Registers
         ensures { λ r. ⌜ r ≡ stored self offset value ⌝ }
     {
-        let mut r = self;
+        let mut next = self;
         if offset == 0x0a {
-            r.clock = value;
-            return r;
+            next.clock = value;
+            return next;
         }
         if offset == 0x14 {
-            r.id = (value % 256) as u8;
-            return r;
+            next.id = (value % 256) as u8;
+            return next;
         }
         if offset < 0x20 {
-            return r;
+            return next;
         }
         if offset < 0x2c {
-            let i = (offset as usize - 0x20) / 2;
-            r.events[i] = value % 512;
-            return r;
+            let place = (offset as usize - 0x20) / 2;
+            next.events[place] = value % 512;
+            return next;
         }
         if offset < 0x30 {
-            return r;
+            return next;
         }
         if offset < 0x40 {
-            let i = (offset as usize - 0x30) / 2;
-            r.switches[i] = value % 2 == 1;
-            return r;
+            let place = (offset as usize - 0x30) / 2;
+            next.switches[place] = value % 2 == 1;
+            return next;
         }
         if offset < 0xe0 {
-            let i = (offset as usize - 0x40) / 4;
-            let old = r.delays[i];
-            r.delays[i] = delay_written(offset, old, value);
-            return r;
+            let place = (offset as usize - 0x40) / 4;
+            let old = next.delays[place];
+            next.delays[place] = delay_written(offset, old, value);
+            return next;
         }
-        r
+        next
     }
 
     // What a read shows at an offset.
@@ -207,8 +207,8 @@ impl Registers {
             return self.clock;
         }
         if offset == 0x0e {
-            let a = self.active;
-            return status::word_of_bits(a);
+            let active = self.active;
+            return status::word_of_bits(active);
         }
         if offset == 0x10 {
             return (self.shown / 65536 % 256) as u16;
@@ -223,17 +223,17 @@ impl Registers {
             return 0;
         }
         if offset < 0x2c {
-            let i = (offset as usize - 0x20) / 2;
-            let e = self.events;
-            return e[i];
+            let place = (offset as usize - 0x20) / 2;
+            let events = self.events;
+            return events[place];
         }
         if offset < 0x40 {
             return 0;
         }
         if offset < 0xe0 {
-            let i = (offset as usize - 0x40) / 4;
-            let d = self.delays;
-            return delay_shown(offset, d[i]);
+            let place = (offset as usize - 0x40) / 4;
+            let delays = self.delays;
+            return delay_shown(offset, delays[place]);
         }
         0
     }
@@ -242,19 +242,19 @@ impl Registers {
     pub fn group_ended(self, count: u32) -> Registers
         ensures { λ r. ⌜ r ≡ groupEnded self count ⌝ }
     {
-        let mut a = self.active;
-        let s = self.switches;
-        let e = self.events;
-        let d = self.delays;
-        a[8] = !a[8];
+        let mut active = self.active;
+        let switches = self.switches;
+        let events = self.events;
+        let delays = self.delays;
+        active[8] = !active[8];
         Registers {
             clock: self.clock,
-            active: flipped(a, s),
+            active: flipped(active, switches),
             shown: count,
             id: self.id,
-            events: e,
+            events: events,
             switches: [false; 8],
-            delays: d,
+            delays: delays,
         }
     }
 }

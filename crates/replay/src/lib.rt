@@ -24,44 +24,44 @@ pub struct RunState {
 }
 
 // The board after a call, and its answer counted.
-fn counted(c: Counts, w: Written) -> RunState
-    ensures { λ r. ⌜ (r .board ≡ w .board) × (r .counts ≡ tally c (one (outcomeOf (w .outcome)))) ⌝ }
+fn counted(counts: Counts, written: Written) -> RunState
+    ensures { λ r. ⌜ (r .board ≡ written .board) × (r .counts ≡ tally counts (one (outcomeOf (written .outcome)))) ⌝ }
 {
-    let board = w.board;
-    let outcome = w.outcome;
+    let board = written.board;
+    let outcome = written.outcome;
     RunState {
         board: board,
-        counts: c.outcome(outcome),
+        counts: counts.outcome(outcome),
     }
 }
 
-fn write(s: RunState, readbacks: &mut [u32], address: u32, value: u16) -> RunState
-    ensures { λ r. ⌜ (r .board ≡ writeBoard (s .board) (length (now (readbacks .entry))) address value) × (r .counts ≡ tally (s .counts) (one (writeAnswer (s .board) (length (now (readbacks .entry))) address value))) × (now (readbacks .exit) ≡ writeWords (s .board) (now (readbacks .entry)) address value) ⌝ }
+fn write(state: RunState, readbacks: &mut [u32], address: u32, value: u16) -> RunState
+    ensures { λ r. ⌜ (r .board ≡ writeBoard (state .board) (length (now (readbacks .entry))) address value) × (r .counts ≡ tally (state .counts) (one (writeAnswer (state .board) (length (now (readbacks .entry))) address value))) × (now (readbacks .exit) ≡ writeWords (state .board) (now (readbacks .entry)) address value) ⌝ }
 {
-    let b = s.board;
-    let c = s.counts;
+    let board = state.board;
+    let counts = state.counts;
     counted(
-        c,
-        board_registers::write_register(b, readbacks, address, value),
+        counts,
+        board_registers::write_register(board, readbacks, address, value),
     )
 }
 
-fn read(s: RunState, address: u32) -> RunState
-    ensures { λ r. ⌜ (r .board ≡ readBoard (s .board) address) × (r .counts ≡ tally (s .counts) (one (readAnswer (s .board) address))) ⌝ }
+fn read(state: RunState, address: u32) -> RunState
+    ensures { λ r. ⌜ (r .board ≡ readBoard (state .board) address) × (r .counts ≡ tally (state .counts) (one (readAnswer (state .board) address))) ⌝ }
 {
-    let b = s.board;
-    let c = s.counts;
-    let w = board_registers::read_register(b, address);
-    let board = w.board;
-    let shown = w.shown;
+    let board = state.board;
+    let counts = state.counts;
+    let read = board_registers::read_register(board, address);
+    let next = read.board;
+    let shown = read.shown;
     RunState {
-        board: board,
-        counts: c.read(shown),
+        board: next,
+        counts: counts.read(shown),
     }
 }
 
 fn setpoint(
-    s: RunState,
+    state: RunState,
     setpoints: &mut [u32],
     number: u32,
     user: u32,
@@ -69,109 +69,120 @@ fn setpoint(
     index: u32,
     word: u32,
 ) -> RunState
-    ensures { λ r. ⌜ (r .board ≡ s .board) × (r .counts ≡ tally (s .counts) (one (setpointAnswer (s .board) (length (now (setpoints .entry))) number user buffer index))) × (now (setpoints .exit) ≡ setpointWords (s .board) (now (setpoints .entry)) number user buffer index word) ⌝ }
+    ensures { λ r. ⌜ (r .board ≡ state .board) × (r .counts ≡ tally (state .counts) (one (setpointAnswer (state .board) (length (now (setpoints .entry))) number user buffer index))) × (now (setpoints .exit) ≡ setpointWords (state .board) (now (setpoints .entry)) number user buffer index word) ⌝ }
 {
-    let b = s.board;
-    let c = s.counts;
-    let outcome = board_channels::write_setpoint(b, setpoints, number, user, buffer, index, word);
-    RunState {
-        board: b,
-        counts: c.outcome(outcome),
-    }
-}
-
-fn event(s: RunState, readbacks: &mut [u32], code: u8) -> RunState
-    ensures { λ r. ⌜ (r .board ≡ eventBoard (s .board) (length (now (readbacks .entry))) code) × (r .counts ≡ tally (s .counts) (one (eventAnswer (s .board) (length (now (readbacks .entry)))))) × (now (readbacks .exit) ≡ eventWords (s .board) (now (readbacks .entry)) code) ⌝ }
-{
-    let b = s.board;
-    let c = s.counts;
-    counted(c, board::event(b, readbacks, code))
-}
-
-fn reply(s: RunState, readbacks: &mut [u32], number: u32, frame: u64) -> RunState
-    ensures { λ r. ⌜ (r .board ≡ replyBoard (s .board) (length (now (readbacks .entry))) number frame) × (r .counts ≡ tally (s .counts) (one (replyAnswer (s .board) (length (now (readbacks .entry))) number frame))) × (now (readbacks .exit) ≡ replyWords (s .board) (now (readbacks .entry)) number frame) ⌝ }
-{
-    let b = s.board;
-    let c = s.counts;
-    let w = board_channels::reply(b, readbacks, number, frame);
-    let board = w.board;
-    let receipt = w.receipt;
+    let board = state.board;
+    let counts = state.counts;
+    let outcome = board_channels::write_setpoint(board, setpoints, number, user, buffer, index, word);
     RunState {
         board: board,
-        counts: c.reply(receipt),
+        counts: counts.outcome(outcome),
     }
 }
 
-fn user(s: RunState, user: u32) -> RunState
-    ensures { λ r. ⌜ (r .board ≡ userBoard (s .board) user) × (r .counts ≡ tally (s .counts) (one (userAnswer user))) ⌝ }
+fn event(state: RunState, readbacks: &mut [u32], code: u8) -> RunState
+    ensures { λ r. ⌜ (r .board ≡ eventBoard (state .board) (length (now (readbacks .entry))) code) × (r .counts ≡ tally (state .counts) (one (eventAnswer (state .board) (length (now (readbacks .entry)))))) × (now (readbacks .exit) ≡ eventWords (state .board) (now (readbacks .entry)) code) ⌝ }
 {
-    let b = s.board;
-    let c = s.counts;
-    counted(c, board::change_user(b, user))
+    let board = state.board;
+    let counts = state.counts;
+    counted(counts, board::event(board, readbacks, code))
 }
 
-fn arm(s: RunState, number: u32) -> RunState
-    ensures { λ r. ⌜ (r .board ≡ armBoard (s .board) number) × (r .counts ≡ tally (s .counts) (one (armAnswer number))) ⌝ }
+fn reply(state: RunState, readbacks: &mut [u32], number: u32, frame: u64) -> RunState
+    ensures { λ r. ⌜ (r .board ≡ replyBoard (state .board) (length (now (readbacks .entry))) number frame) × (r .counts ≡ tally (state .counts) (one (replyAnswer (state .board) (length (now (readbacks .entry))) number frame))) × (now (readbacks .exit) ≡ replyWords (state .board) (now (readbacks .entry)) number frame) ⌝ }
 {
-    let b = s.board;
-    let c = s.counts;
-    counted(c, board_channels::arm(b, number))
+    let board = state.board;
+    let counts = state.counts;
+    let received = board_channels::reply(board, readbacks, number, frame);
+    let next = received.board;
+    let receipt = received.receipt;
+    RunState {
+        board: next,
+        counts: counts.reply(receipt),
+    }
 }
 
-fn disarm(s: RunState, number: u32) -> RunState
-    ensures { λ r. ⌜ (r .board ≡ disarmBoard (s .board) number) × (r .counts ≡ tally (s .counts) (one (armAnswer number))) ⌝ }
+fn user(state: RunState, user: u32) -> RunState
+    ensures { λ r. ⌜ (r .board ≡ userBoard (state .board) user) × (r .counts ≡ tally (state .counts) (one (userAnswer user))) ⌝ }
 {
-    let b = s.board;
-    let c = s.counts;
-    counted(c, board_channels::disarm(b, number))
+    let board = state.board;
+    let counts = state.counts;
+    counted(counts, board::change_user(board, user))
+}
+
+fn arm(state: RunState, number: u32) -> RunState
+    ensures { λ r. ⌜ (r .board ≡ armBoard (state .board) number) × (r .counts ≡ tally (state .counts) (one (armAnswer number))) ⌝ }
+{
+    let board = state.board;
+    let counts = state.counts;
+    counted(counts, board_channels::arm(board, number))
+}
+
+fn disarm(state: RunState, number: u32) -> RunState
+    ensures { λ r. ⌜ (r .board ≡ disarmBoard (state .board) number) × (r .counts ≡ tally (state .counts) (one (armAnswer number))) ⌝ }
+{
+    let board = state.board;
+    let counts = state.counts;
+    counted(counts, board_channels::disarm(board, number))
 }
 
 // A record of so many ticks makes that many ticks of the board.
-fn ticks(s: RunState, setpoints: &[u32], count: u32) -> RunState
-    ensures { λ r. ⌜ (r .board ≡ ticked (s .board) (now (setpoints .entry)) count) × (r .counts ≡ tallies (s .counts) (tickAnswers (s .board) (now (setpoints .entry)) count)) ⌝ }
+fn ticks(state: RunState, setpoints: &[u32], count: u32) -> RunState
+    ensures { λ r. ⌜ (r .board ≡ ticked (state .board) (now (setpoints .entry)) count) × (r .counts ≡ tallies (state .counts) (tickAnswers (state .board) (now (setpoints .entry)) count)) ⌝ }
 {
-    let b = s.board;
-    let c = s.counts;
-    let x = board_ticks::ticks(b, setpoints, count);
-    let board = x.board;
+    let board = state.board;
+    let counts = state.counts;
+    let advanced = board_ticks::ticks(board, setpoints, count);
+    let next = advanced.board;
     RunState {
-        board: board,
-        counts: c.ticks(x.refused, x.first, x.second, x.third, x.fourth),
+        board: next,
+        counts: counts.ticks(
+            advanced.refused,
+            advanced.first,
+            advanced.second,
+            advanced.third,
+            advanced.fourth,
+        ),
     }
 }
 
 // A bad record makes no call and is refused 9.
-fn bad(s: RunState) -> RunState
-    ensures { λ r. ⌜ (r .board ≡ s .board) × (r .counts ≡ tally (s .counts) (one badRecord)) ⌝ }
+fn bad(state: RunState) -> RunState
+    ensures { λ r. ⌜ (r .board ≡ state .board) × (r .counts ≡ tally (state .counts) (one badRecord)) ⌝ }
 {
-    let b = s.board;
-    let c = s.counts;
+    let board = state.board;
+    let counts = state.counts;
     RunState {
-        board: b,
-        counts: c.outcome(Outcome::Refused(Refusal::BadRecord)),
+        board: board,
+        counts: counts.outcome(Outcome::Refused(Refusal::BadRecord)),
     }
 }
 
 // What a record asks, done and counted.
-pub fn apply(s: RunState, setpoints: &mut [u32], readbacks: &mut [u32], q: Request) -> RunState
-    ensures { λ r. ⌜ (world (r .board) (now (setpoints .exit)) (now (readbacks .exit)) ≡ after (world (s .board) (now (setpoints .entry)) (now (readbacks .entry))) (requestOf q)) × (r .counts ≡ tallies (s .counts) (answers (world (s .board) (now (setpoints .entry)) (now (readbacks .entry))) (requestOf q))) ⌝ }
+pub fn apply(
+    state: RunState,
+    setpoints: &mut [u32],
+    readbacks: &mut [u32],
+    request: Request,
+) -> RunState
+    ensures { λ r. ⌜ (world (r .board) (now (setpoints .exit)) (now (readbacks .exit)) ≡ after (world (state .board) (now (setpoints .entry)) (now (readbacks .entry))) (requestOf request)) × (r .counts ≡ tallies (state .counts) (answers (world (state .board) (now (setpoints .entry)) (now (readbacks .entry))) (requestOf request))) ⌝ }
 {
-    match q {
-        Request::Write { address, value } => write(s, readbacks, address, value),
-        Request::Read { address } => read(s, address),
+    match request {
+        Request::Write { address, value } => write(state, readbacks, address, value),
+        Request::Read { address } => read(state, address),
         Request::Setpoint {
             number,
             user,
             buffer,
             index,
             word,
-        } => setpoint(s, setpoints, number, user, buffer, index, word),
-        Request::Event { code } => event(s, readbacks, code),
-        Request::Ticks { count } => ticks(s, setpoints, count),
-        Request::Reply { number, frame } => reply(s, readbacks, number, frame),
-        Request::User { user: x } => user(s, x),
-        Request::Arm { number } => arm(s, number),
-        Request::Disarm { number } => disarm(s, number),
-        Request::Bad => bad(s),
+        } => setpoint(state, setpoints, number, user, buffer, index, word),
+        Request::Event { code } => event(state, readbacks, code),
+        Request::Ticks { count } => ticks(state, setpoints, count),
+        Request::Reply { number, frame } => reply(state, readbacks, number, frame),
+        Request::User { user: chosen } => user(state, chosen),
+        Request::Arm { number } => arm(state, number),
+        Request::Disarm { number } => disarm(state, number),
+        Request::Bad => bad(state),
     }
 }

@@ -14,23 +14,23 @@ ghost use Rattle.board.specs.Worlds.{world};
 ghost use Rattle.replay.specs.Worlds.{after, answers};
 ghost use Rattle.run_file.specs.Runs.{start, askedAt, countsAfter, runOf, runLine};
 
-// Record k of the part, from 0: done and counted.
+// The record at an index of the part, from 0: done and counted.
 fn step(
-    s: RunState,
+    state: RunState,
     part: &[u8],
-    k: usize,
+    index: usize,
     setpoints: &mut [u32],
     readbacks: &mut [u32],
 ) -> RunState
-    requires { ⌜ 8 * k + 8 ≤ length (now part) ⌝ }
-    ensures { λ r. ⌜ (world (r .board) (now (setpoints .exit)) (now (readbacks .exit)) ≡ after (world (s .board) (now (setpoints .entry)) (now (readbacks .entry))) (askedAt (now (part .entry)) k)) × (r .counts ≡ stepped (tallies (s .counts) (answers (world (s .board) (now (setpoints .entry)) (now (readbacks .entry))) (askedAt (now (part .entry)) k)))) ⌝ }
+    requires { ⌜ 8 * index + 8 ≤ length (now part) ⌝ }
+    ensures { λ r. ⌜ (world (r .board) (now (setpoints .exit)) (now (readbacks .exit)) ≡ after (world (state .board) (now (setpoints .entry)) (now (readbacks .entry))) (askedAt (now (part .entry)) index)) × (r .counts ≡ stepped (tallies (state .counts) (answers (world (state .board) (now (setpoints .entry)) (now (readbacks .entry))) (askedAt (now (part .entry)) index)))) ⌝ }
 {
-    let a = 8 * k;
-    let e = a + 8;
-    let q = records::decode(&part[a..e]);
-    let x = replay::apply(s, setpoints, readbacks, q);
-    let board = x.board;
-    let counts = x.counts;
+    let start = 8 * index;
+    let end = start + 8;
+    let request = records::decode(&part[start..end]);
+    let applied = replay::apply(state, setpoints, readbacks, request);
+    let board = applied.board;
+    let counts = applied.counts;
     RunState {
         board: board,
         counts: counts.stepped(),
@@ -41,17 +41,17 @@ fn step(
 fn play(b: Board, part: &[u8], setpoints: &mut [u32], readbacks: &mut [u32]) -> Counts
     ensures { λ r. ⌜ r ≡ countsAfter (world b (now (setpoints .entry)) (now (readbacks .entry))) (now (part .entry)) (length (now (part .entry)) / 8) ⌝ }
 {
-    let n = part.len() / 8;
-    let mut x = RunState {
+    let count = part.len() / 8;
+    let mut state = RunState {
         board: b,
         counts: Counts::nothing(),
     };
-    let mut k: usize = 0;
-    while k < n {
-        x = step(x, part, k, setpoints, readbacks);
-        k += 1;
+    let mut index: usize = 0;
+    while index < count {
+        state = step(state, part, index, setpoints, readbacks);
+        index += 1;
     }
-    let counts = x.counts;
+    let counts = state.counts;
     counts
 }
 
@@ -61,9 +61,9 @@ fn run_records(part: &[u8]) -> Counts
 {
     let mut setpoints = [0u32; 1024];
     let mut readbacks = [0u32; 512];
-    let w = board::open(16, 64, &setpoints, &readbacks);
-    let b = w.board;
-    play(b, part, &mut setpoints, &mut readbacks)
+    let opened = board::open(16, 64, &setpoints, &readbacks);
+    let board = opened.board;
+    play(board, part, &mut setpoints, &mut readbacks)
 }
 
 // The run of a file: refused 8, or the six counts.
@@ -73,7 +73,7 @@ pub fn run(file: &[u8]) -> Ran
     let answer = records::records_length(file);
     match answer {
         RecordsLength::Bytes(_) => Ran::Counted(run_records(records::records(file))),
-        RecordsLength::Refused(k) => Ran::Refused(k),
+        RecordsLength::Refused(reason) => Ran::Refused(reason),
     }
 }
 

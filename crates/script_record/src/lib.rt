@@ -11,53 +11,61 @@ pub fn open(
     n: u32,
     m: u32,
     setpoints: &[u32],
-    s: usize,
+    setpoint_length: usize,
     readbacks: &[u32],
-    k: usize,
+    readback_length: usize,
 ) -> Board {
     printed_calls::open(
         block,
         n,
         m,
-        pool::front(setpoints, s),
-        pool::front(readbacks, k),
+        pool::front(setpoints, setpoint_length),
+        pool::front(readbacks, readback_length),
     )
 }
 
 // Another opening: kind 0.
-fn open_again(block: &mut Block, setpoints: &[u32], readbacks: &[u32], r: Record) -> Board {
-    let s = (r.z % 65536) as usize;
-    let k = (r.z / 65536) as usize;
-    open(block, r.x, r.y, setpoints, s, readbacks, k)
+fn open_again(block: &mut Block, setpoints: &[u32], readbacks: &[u32], record: Record) -> Board {
+    let setpoint_length = (record.z % 65536) as usize;
+    let readback_length = (record.z / 65536) as usize;
+    open(
+        block,
+        record.x,
+        record.y,
+        setpoints,
+        setpoint_length,
+        readbacks,
+        readback_length,
+    )
 }
 
-fn write_setpoint(block: &mut Block, b: Board, words: &mut [u32], r: Record) -> Board {
+fn write_setpoint(block: &mut Block, b: Board, words: &mut [u32], record: Record) -> Board {
     printed_calls::write_setpoint(
         block,
         b,
         words,
-        r.channel as u32,
-        r.x,
-        r.buffer as u32,
-        r.y,
-        r.z,
+        record.channel as u32,
+        record.x,
+        record.buffer as u32,
+        record.y,
+        record.z,
     )
 }
 
-fn reply(block: &mut Block, b: Board, words: &mut [u32], r: Record) -> Board {
-    let frame = r.z as u64 * 0x1_0000_0000 + r.y as u64;
-    printed_calls::reply(block, b, words, r.channel as u32, frame)
+fn reply(block: &mut Block, b: Board, words: &mut [u32], record: Record) -> Board {
+    let frame = record.z as u64 * 0x1_0000_0000 + record.y as u64;
+    printed_calls::reply(block, b, words, record.channel as u32, frame)
 }
 
 // A call that is lent words of one pool: kinds 1, 3, 6, 9, 10.
-fn lent_call(block: &mut Block, b: Board, words: &mut [u32], r: Record) -> Board {
-    let kind = r.kind;
+fn lent_call(block: &mut Block, b: Board, words: &mut [u32], record: Record) -> Board {
+    let kind = record.kind;
     match kind {
-        1 => printed_calls::write_register(block, b, words, r.x, (r.y % 65536) as u16),
-        3 => write_setpoint(block, b, words, r),
-        6 => reply(block, b, words, r),
-        9 => printed_ticks::ticks(block, b, words, r.x % 65536),
-        _ => printed_calls::event(block, b, words, (r.x % 256) as u8),
+        1 => printed_calls::write_register(block, b, words, record.x, (record.y % 65536) as u16),
+        3 => write_setpoint(block, b, words, record),
+        6 => reply(block, b, words, record),
+        9 => printed_ticks::ticks(block, b, words, record.x % 65536),
+        _ => printed_calls::event(block, b, words, (record.x % 256) as u8),
     }
 }
 
@@ -67,23 +75,29 @@ fn pool_call(
     b: Board,
     setpoints: &mut [u32],
     readbacks: &mut [u32],
-    r: Record,
+    record: Record,
 ) -> Board {
-    let length = lent::length_of(r, b.n, b.m);
-    if lent::is_of_setpoints(r) {
-        return lent_call(block, b, pool::front_mut(setpoints, length), r);
+    let length = lent::length_of(record, b.n, b.m);
+    if lent::is_of_setpoints(record) {
+        return lent_call(block, b, pool::front_mut(setpoints, length), record);
     }
-    lent_call(block, b, pool::front_mut(readbacks, length), r)
+    lent_call(block, b, pool::front_mut(readbacks, length), record)
 }
 
 // Retired readbacks and their length: kinds 7, 8.
-fn retired_call(block: &mut Block, b: Board, readbacks: &[u32], r: Record) {
-    let one = pool::part(readbacks, lent::first_buffer(r.lent, b.m, r.channel));
-    let two = pool::part(readbacks, lent::second_buffer(r.lent, b.m, r.channel));
-    if r.kind == 7 {
-        printed_calls::retired(block, b, r.channel as u32, one, two);
+fn retired_call(block: &mut Block, b: Board, readbacks: &[u32], record: Record) {
+    let one = pool::part(
+        readbacks,
+        lent::first_buffer(record.lent, b.m, record.channel),
+    );
+    let two = pool::part(
+        readbacks,
+        lent::second_buffer(record.lent, b.m, record.channel),
+    );
+    if record.kind == 7 {
+        printed_calls::retired(block, b, record.channel as u32, one, two);
     } else {
-        printed_calls::retired_length(block, b, r.channel as u32, one, two);
+        printed_calls::retired_length(block, b, record.channel as u32, one, two);
     }
 }
 
@@ -93,13 +107,13 @@ fn none(block: &mut Block) {
 }
 
 // A call that is lent nothing: kinds 2, 4, 5, 11, 12.
-fn plain_call(block: &mut Block, b: Board, r: Record) -> Board {
-    let kind = r.kind;
+fn plain_call(block: &mut Block, b: Board, record: Record) -> Board {
+    let kind = record.kind;
     match kind {
-        2 => printed_calls::read_register(block, b, r.x),
-        4 => printed_calls::arm(block, b, r.channel as u32),
-        5 => printed_calls::disarm(block, b, r.channel as u32),
-        11 => printed_calls::change_user(block, b, r.x),
+        2 => printed_calls::read_register(block, b, record.x),
+        4 => printed_calls::arm(block, b, record.channel as u32),
+        5 => printed_calls::disarm(block, b, record.channel as u32),
+        11 => printed_calls::change_user(block, b, record.x),
         12 => {
             printed_calls::interrupt_level(block, b);
             b
@@ -112,16 +126,16 @@ fn plain_call(block: &mut Block, b: Board, r: Record) -> Board {
 }
 
 // Whether the pool has the word that is to be set.
-fn set_in_pool(setpoints: &mut [u32], readbacks: &mut [u32], r: Record) -> bool {
-    if r.channel == 0 {
-        return pool::set(setpoints, r.x, r.y);
+fn set_in_pool(setpoints: &mut [u32], readbacks: &mut [u32], record: Record) -> bool {
+    if record.channel == 0 {
+        return pool::set(setpoints, record.x, record.y);
     }
-    pool::set(readbacks, r.x, r.y)
+    pool::set(readbacks, record.x, record.y)
 }
 
 // A word of a pool: kind 13.
-fn set_word(block: &mut Block, setpoints: &mut [u32], readbacks: &mut [u32], r: Record) {
-    if set_in_pool(setpoints, readbacks, r) {
+fn set_word(block: &mut Block, setpoints: &mut [u32], readbacks: &mut [u32], record: Record) {
+    if set_in_pool(setpoints, readbacks, record) {
         printed_calls::ok(block);
     } else {
         none(block);
@@ -134,21 +148,21 @@ fn call(
     b: Board,
     setpoints: &mut [u32],
     readbacks: &mut [u32],
-    r: Record,
+    record: Record,
 ) -> Board {
-    let kind = r.kind;
+    let kind = record.kind;
     match kind {
-        0 => open_again(block, setpoints, readbacks, r),
-        1 | 3 | 6 | 9 | 10 => pool_call(block, b, setpoints, readbacks, r),
+        0 => open_again(block, setpoints, readbacks, record),
+        1 | 3 | 6 | 9 | 10 => pool_call(block, b, setpoints, readbacks, record),
         7 | 8 => {
-            retired_call(block, b, readbacks, r);
+            retired_call(block, b, readbacks, record);
             b
         }
         13 => {
-            set_word(block, setpoints, readbacks, r);
+            set_word(block, setpoints, readbacks, record);
             b
         }
-        _ => plain_call(block, b, r),
+        _ => plain_call(block, b, record),
     }
 }
 
@@ -158,11 +172,11 @@ pub fn line(
     b: Board,
     setpoints: &mut [u32],
     readbacks: &mut [u32],
-    r: Record,
+    record: Record,
     number: u16,
 ) -> Board {
     output::decimal(block, number as u64);
-    let board = call(block, b, setpoints, readbacks, r);
+    let board = call(block, b, setpoints, readbacks, record);
     output::end_line(block);
     board
 }

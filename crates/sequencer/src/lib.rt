@@ -125,17 +125,17 @@ impl Sequencer {
     pub fn armed(self) -> Sequencer
         ensures { λ r. ⌜ r ≡ armed self ⌝ }
     {
-        let mut s = self;
-        s.armed = true;
-        s
+        let mut next = self;
+        next.armed = true;
+        next
     }
 
     pub fn disarmed(self) -> Sequencer
         ensures { λ r. ⌜ r ≡ disarmed self ⌝ }
     {
-        let mut s = self.idled();
-        s.armed = false;
-        s
+        let mut next = self.idled();
+        next.armed = false;
+        next
     }
 
     // Start, with a delay, of a channel that is armed.
@@ -164,8 +164,8 @@ impl Sequencer {
             Stage::Idle => self,
             Stage::Starting => self,
             Stage::Running => self,
-            Stage::Paused(k) => {
-                if k == pause {
+            Stage::Paused(current) => {
+                if current == pause {
                     let last = self.last;
                     return Sequencer {
                         armed: self.armed,
@@ -189,22 +189,22 @@ impl Sequencer {
     pub fn answered(self) -> Sequencer
         ensures { λ r. ⌜ r ≡ answered self ⌝ }
     {
-        let mut s = self;
-        let mut l = s.last;
-        let replies = l.replies;
+        let mut next = self;
+        let mut last = next.last;
+        let replies = last.replies;
         if replies < 6 {
-            l.replies = replies + 1;
+            last.replies = replies + 1;
         }
-        s.last = l;
-        s
+        next.last = last;
+        next
     }
 
     // Group End's share: the function dropped, the count cleared.
     pub fn group_ended(self) -> Sequencer
         ensures { λ r. ⌜ r ≡ groupEnded self ⌝ }
     {
-        let mut s = self.idled();
-        s.count = 0;
-        s
+        let mut next = self.idled();
+        next.count = 0;
+        next
     }
 }

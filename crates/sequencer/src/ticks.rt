@@ -17,11 +17,11 @@ fn count_up(count: u32) -> u32
 }
 
 // A tick on which nothing leaves.
-fn quiet(s: Sequencer) -> Ticked
-    ensures { λ r. ⌜ r ≡ quiet s ⌝ }
+fn quiet(sequencer: Sequencer) -> Ticked
+    ensures { λ r. ⌜ r ≡ quiet sequencer ⌝ }
 {
     Ticked {
-        sequencer: s,
+        sequencer: sequencer,
         transmission: Transmission::Nothing,
     }
 }
@@ -95,9 +95,9 @@ impl Sequencer {
         if left <= 1 {
             return self.send_next(due, n, period);
         }
-        let mut s = self;
-        s.left = left - 1;
-        quiet(s)
+        let mut next = self;
+        next.left = left - 1;
+        quiet(next)
     }
 
     // A tick towards the next repeat.
@@ -108,9 +108,9 @@ impl Sequencer {
         if left <= 1 {
             return self.repeat(period);
         }
-        let mut s = self;
-        s.left = left - 1;
-        quiet(s)
+        let mut next = self;
+        next.left = left - 1;
+        quiet(next)
     }
 
     // A tick of a resume: repeats through the delay, then nine silent ticks, then the word due.
@@ -121,12 +121,12 @@ impl Sequencer {
         if resume <= 1 {
             return self.send_next(due, n, period);
         }
-        let mut s = self;
-        s.resume = resume - 1;
+        let mut next = self;
+        next.resume = resume - 1;
         if resume <= 10 {
-            return quiet(s);
+            return quiet(next);
         }
-        s.hold(period)
+        next.hold(period)
     }
 
     // One tick. `due` is the word at the index due, `n` the depth of its buffer.

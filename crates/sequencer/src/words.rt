@@ -46,7 +46,7 @@ pub(crate) fn stage_after(kind: Kind) -> Stage
 {
     match kind {
         Kind::Plain => Stage::Running,
-        Kind::Pause(k) => Stage::Paused(k),
+        Kind::Pause(pause) => Stage::Paused(pause),
         Kind::Last => Stage::Ended,
     }
 }
@@ -70,7 +70,7 @@ pub(crate) fn condition_of(kind: Kind) -> u8
 {
     match kind {
         Kind::Plain => 0,
-        Kind::Pause(k) => status::VME_PAUSE + k,
+        Kind::Pause(pause) => status::VME_PAUSE + pause,
         Kind::Last => status::END_OF_FUNCTION,
     }
 }

@@ -62,13 +62,13 @@ fn pushed(word: u32, bit: bool) -> u32
 pub fn word_of_bits(bits: [bool; 16]) -> u16
     ensures { λ r. ⌜ r ≡ wordOfBits bits ⌝ }
 {
-    let mut k: usize = 16;
-    let mut w: u32 = 0;
-    while 0 < k {
-        k = k - 1;
-        w = pushed(w, bits[k]);
+    let mut i: usize = 16;
+    let mut word: u32 = 0;
+    while 0 < i {
+        i = i - 1;
+        word = pushed(word, bits[i]);
     }
-    w as u16
+    word as u16
 }
 
 // What an enable register keeps of a word written: D3 is dropped.
@@ -93,33 +93,33 @@ impl Latches {
     pub fn latched(self, bit: u8, on: bool) -> Latches
         ensures { λ r. ⌜ r ≡ latchedIn self bit on ⌝ }
     {
-        let mut l = self;
-        let i = bit as usize;
-        if i < 16 {
-            l.bits[i] = true;
+        let mut next = self;
+        let place = bit as usize;
+        if place < 16 {
+            next.bits[place] = true;
         }
         if on {
-            l.main = true;
+            next.main = true;
         }
-        l
+        next
     }
 
     // The status read: its bits clear, the Main bit stays.
     pub fn cleared(self) -> Latches
         ensures { λ r. ⌜ r ≡ clearedIn self ⌝ }
     {
-        let mut l = self;
-        l.bits = [false; 16];
-        l
+        let mut next = self;
+        next.bits = [false; 16];
+        next
     }
 
     // Main's status read: the Main bit clears, the others stay.
     pub fn taken(self) -> Latches
         ensures { λ r. ⌜ r ≡ takenIn self ⌝ }
     {
-        let mut l = self;
-        l.main = false;
-        l
+        let mut next = self;
+        next.main = false;
+        next
     }
 }
 
@@ -139,12 +139,12 @@ impl Status {
         ensures { λ r. ⌜ r ≡ latched self bit ⌝ }
     {
         let on = is_set(self.enable, bit);
-        let i = self.interrupt;
-        let p = self.polling;
+        let interrupt = self.interrupt;
+        let polling = self.polling;
         Status {
             enable: self.enable,
-            interrupt: i.latched(bit, on),
-            polling: p.latched(bit, on),
+            interrupt: interrupt.latched(bit, on),
+            polling: polling.latched(bit, on),
         }
     }
 
@@ -152,21 +152,21 @@ impl Status {
     pub fn enabled(self, value: u16) -> Status
         ensures { λ r. ⌜ r ≡ enabled self value ⌝ }
     {
-        let mut s = self;
-        s.enable = kept_enable(value);
-        s
+        let mut next = self;
+        next.enable = kept_enable(value);
+        next
     }
 
     // As opened, with the Main bits as they are.
     pub fn reset(self) -> Status
         ensures { λ r. ⌜ r ≡ reset self ⌝ }
     {
-        let i = self.interrupt;
-        let p = self.polling;
+        let interrupt = self.interrupt;
+        let polling = self.polling;
         Status {
             enable: 0,
-            interrupt: i.cleared(),
-            polling: p.cleared(),
+            interrupt: interrupt.cleared(),
+            polling: polling.cleared(),
         }
     }
 }

@@ -26,50 +26,50 @@ pub enum Ran {
 }
 
 // One more where the test holds; a count stays at its type's largest number.
-fn more(test: bool, n: u32) -> u32
-    ensures { λ r. ⌜ r ≡ Tallies·more test n ⌝ }
+fn more(test: bool, count: u32) -> u32
+    ensures { λ r. ⌜ r ≡ Tallies·more test count ⌝ }
 {
     if test {
-        if n < 4294967295 {
-            return n + 1;
+        if count < 4294967295 {
+            return count + 1;
         }
-        return n;
+        return count;
     }
-    n
+    count
 }
 
 // So many more, at once.
-fn more_by(k: u32, n: u32) -> u32
-    ensures { λ r. ⌜ r ≡ moreBy k n ⌝ }
+fn more_by(added: u32, count: u32) -> u32
+    ensures { λ r. ⌜ r ≡ moreBy added count ⌝ }
 {
-    if k < 4294967295 - n {
-        return n + k;
+    if added < 4294967295 - count {
+        return count + added;
     }
     4294967295
 }
 
-fn is_refused_outcome(x: Outcome) -> bool
-    ensures { λ r. ⌜ r ≡ isRefusal (outcomeOf x) ⌝ }
+fn is_refused_outcome(outcome: Outcome) -> bool
+    ensures { λ r. ⌜ r ≡ isRefusal (outcomeOf outcome) ⌝ }
 {
-    match x {
+    match outcome {
         Outcome::Done => false,
         Outcome::Refused(_) => true,
     }
 }
 
-fn is_refused_read(x: Shown) -> bool
-    ensures { λ r. ⌜ r ≡ isRefusal (shownOf x) ⌝ }
+fn is_refused_read(shown: Shown) -> bool
+    ensures { λ r. ⌜ r ≡ isRefusal (shownOf shown) ⌝ }
 {
-    match x {
+    match shown {
         Shown::Value(_) => false,
         Shown::Refused(_) => true,
     }
 }
 
-fn is_refused_reply(x: Receipt) -> bool
-    ensures { λ r. ⌜ r ≡ isRefusal (receiptOf x) ⌝ }
+fn is_refused_reply(receipt: Receipt) -> bool
+    ensures { λ r. ⌜ r ≡ isRefusal (receiptOf receipt) ⌝ }
 {
-    match x {
+    match receipt {
         Receipt::Kept => false,
         Receipt::Lost => false,
         Receipt::Unsolicited => false,
@@ -100,24 +100,24 @@ impl Counts {
     }
 
     // The answer of a call counted: of one that has nothing to tell, of a read, of a reply.
-    pub fn outcome(mut self, x: Outcome) -> Self
-        ensures { λ r. ⌜ r ≡ tally self (one (outcomeOf x)) ⌝ }
+    pub fn outcome(mut self, outcome: Outcome) -> Self
+        ensures { λ r. ⌜ r ≡ tally self (one (outcomeOf outcome)) ⌝ }
     {
-        self.refused = more(is_refused_outcome(x), self.refused);
+        self.refused = more(is_refused_outcome(outcome), self.refused);
         self
     }
 
-    pub fn read(mut self, x: Shown) -> Self
-        ensures { λ r. ⌜ r ≡ tally self (one (shownOf x)) ⌝ }
+    pub fn read(mut self, shown: Shown) -> Self
+        ensures { λ r. ⌜ r ≡ tally self (one (shownOf shown)) ⌝ }
     {
-        self.refused = more(is_refused_read(x), self.refused);
+        self.refused = more(is_refused_read(shown), self.refused);
         self
     }
 
-    pub fn reply(mut self, x: Receipt) -> Self
-        ensures { λ r. ⌜ r ≡ tally self (one (receiptOf x)) ⌝ }
+    pub fn reply(mut self, receipt: Receipt) -> Self
+        ensures { λ r. ⌜ r ≡ tally self (one (receiptOf receipt)) ⌝ }
     {
-        self.refused = more(is_refused_reply(x), self.refused);
+        self.refused = more(is_refused_reply(receipt), self.refused);
         self
     }
 

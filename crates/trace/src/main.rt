@@ -12,9 +12,9 @@ fn call(
     b: Board,
     setpoints: &mut [u32],
     readbacks: &mut [u32],
-    q: Request,
+    request: Request,
 ) -> Board {
-    match q {
+    match request {
         Request::Write { address, value } => {
             printed_calls::write_register(block, b, readbacks, address, value)
         }
@@ -51,11 +51,11 @@ fn line(
     b: Board,
     setpoints: &mut [u32],
     readbacks: &mut [u32],
-    q: Request,
+    request: Request,
     number: usize,
 ) -> Board {
     output::decimal(block, number as u64);
-    let board = call(block, b, setpoints, readbacks, q);
+    let board = call(block, b, setpoints, readbacks, request);
     output::end_line(block);
     board
 }
@@ -71,21 +71,21 @@ fn play(
     let mut board = b;
     let mut number: usize = 0;
     while number < part.len() / 8 {
-        let a = number * 8;
-        let e = a + 8;
-        let q = records::decode(&part[a..e]);
+        let start = number * 8;
+        let end = start + 8;
+        let request = records::decode(&part[start..end]);
         number += 1;
-        board = line(block, board, setpoints, readbacks, q, number);
+        board = line(block, board, setpoints, readbacks, request, number);
     }
     board
 }
 
 // A word by its index; nothing for 0.
-fn word(block: &mut Block, index: usize, w: u32) {
-    if w != 0 {
+fn word(block: &mut Block, index: usize, word: u32) {
+    if word != 0 {
         output::numbered(block, b" ", index as u64);
         output::text(block, b"=");
-        output::hex_word(block, w);
+        output::hex_word(block, word);
     }
 }
 
@@ -110,10 +110,10 @@ fn end(block: &mut Block, b: Board, readbacks: &[u32]) {
 fn trace(block: &mut Block, part: &[u8]) {
     let mut setpoints = [0u32; 1024];
     let mut readbacks = [0u32; 512];
-    let w = board::open(16, 64, &setpoints, &readbacks);
-    let b = w.board;
-    let c = play(block, b, part, &mut setpoints, &mut readbacks);
-    end(block, c, &readbacks);
+    let opened = board::open(16, 64, &setpoints, &readbacks);
+    let board = opened.board;
+    let played = play(block, board, part, &mut setpoints, &mut readbacks);
+    end(block, played, &readbacks);
 }
 
 fn refused(block: &mut Block) {
@@ -123,10 +123,10 @@ fn refused(block: &mut Block) {
 fn main() {
     let mut block = output::empty();
     let mut file = [0u8; 65537];
-    let n = io::read_full(STDIN_FILENO, &mut file);
-    let answer = records::records_length(&file[..n]);
+    let length = io::read_full(STDIN_FILENO, &mut file);
+    let answer = records::records_length(&file[..length]);
     match answer {
-        RecordsLength::Bytes(_) => trace(&mut block, records::records(&file[..n])),
+        RecordsLength::Bytes(_) => trace(&mut block, records::records(&file[..length])),
         RecordsLength::Refused(_) => refused(&mut block),
     }
     output::flush(&mut block);

@@ -1,4 +1,4 @@
--- `channel_ticks::ticks` meets its contract. The loop's invariant: what k ticks change of the channel, and their frames. Assumes nothing.
+-- `channel_ticks::ticks` meets its contract. The loop's invariant: what the ticks done change of the channel, and their frames. Assumes nothing.
 use Prim.Native.Nat.{_+_, _-_, _≤_}
 use mathlib.Core.Path.{_≡_, refl, sym, _∙_}
 use native.Mathlib.Omega.{arith}
@@ -10,11 +10,11 @@ use Rattle.channel_ticks.proofs.ticks.Statement.{statement}
 use Rattle.channel_ticks.proofs.ticks.Tie as tie
 
 abbrev Inv-loop : tie.InvT-loop
-Inv-loop c setpoints n user count captured₀ id at second period x₀ k₀ captured x k =
-    (k ≤ count) × (length captured ≡ length captured₀) × Held setpoints n user c captured₀ k (x .status) (x .sequencer) (x .frames) captured
+Inv-loop c setpoints n user count captured₀ id at second period progress₀ done₀ captured progress done =
+    (done ≤ count) × (length captured ≡ length captured₀) × Held setpoints n user c captured₀ done (progress .status) (progress .sequencer) (progress .frames) captured
 
 abbrev μ-loop : tie.MeasureT-loop
-μ-loop c setpoints n user count captured₀ id at second period x₀ k₀ captured x k = count - k
+μ-loop c setpoints n user count captured₀ id at second period progress₀ done₀ captured progress done = count - done
 
 -- the call's arguments and their ranges
 abbrev begun : tie.At-loop Inv-loop μ-loop → tie.Start Inv-loop μ-loop
@@ -27,7 +27,7 @@ turn c = c .before .before .before .before .before
 skipped : (c : tie.After-skip Inv-loop μ-loop) →
     let a = begun (turn c) .args in
     let x = c .skip .result in
-    Held (now (a .setpoints)) (a .n) (a .user) (a .c) (now (a .captured)) (turn c .loop .k + c .before .least .result) (x .status) (x .sequencer) (x .frames)
+    Held (now (a .setpoints)) (a .n) (a .user) (a .c) (now (a .captured)) (turn c .loop .done + c .before .least .result) (x .status) (x .sequencer) (x .frames)
     (turn c .loop .captured)
 skipped c =
     held-quiet _ _ _ _ _ _ _ (turn c .loop .inv .2)
@@ -66,11 +66,11 @@ least-requires c κs = search needs
 skip-requires : tie.Need-skip-requires Inv-loop μ-loop
 skip-requires c κs = search needs
 
-cast-k : tie.Need-cast-k Inv-loop μ-loop
-cast-k c = omega (arith, c .before .least .ensures, begun (turn c) .fits)
+cast-done : tie.Need-cast-done Inv-loop μ-loop
+cast-done c = omega (arith, c .before .least .ensures, begun (turn c) .fits)
 
-add-k : tie.Need-add-k Inv-loop μ-loop
-add-k c = omega (arith, c .before .least .ensures, c .before .before .before .before .loop-test .taken, begun (turn c) .fits)
+add-done : tie.Need-add-done Inv-loop μ-loop
+add-done c = omega (arith, c .before .least .ensures, c .before .before .before .before .loop-test .taken, begun (turn c) .fits)
 
 setpoint-place-requires : tie.Need-setpoint-place-requires Inv-loop μ-loop
 setpoint-place-requires c κs = search needs
@@ -88,8 +88,8 @@ tick-requires c κs =
     let x = c .before .before .before .before in
     omega (arith, held-few _ _ _ (skipped (x .before)), x .if1 .taken, begun (turn (x .before)) .fits)
 
-add-k-2 : tie.Need-add-k-2 Inv-loop μ-loop
-add-k-2 c =
+add-done-2 : tie.Need-add-done-2 Inv-loop μ-loop
+add-done-2 c =
     let x = c .before .before .before .before .before .before .before in
     omega (arith, x .if1 .taken, begun (turn (x .before)) .fits)
 
@@ -131,7 +131,7 @@ same-length c = c .before .before .loop .inv .1
 returns : tie.Need-returns Inv-loop μ-loop
 returns c =
     let l = c .before .before in
-    let e : l .loop .k ≡ begun l .args .count = omega (arith, c .before .loop-test .left, l .loop .inv .0) in
+    let e : l .loop .done ≡ begun l .args .count = omega (arith, c .before .loop-test .left, l .loop .inv .0) in
     let x = rw e at (l .loop .inv .2) in
     (c .finish .ensures .0 ∙ sym (x .channel-is), c .finish .ensures .1 ∙ sym (x .frames-are), sym (x .captured-is))
 
@@ -151,13 +151,13 @@ ticks-spec =
     cast-least
     least-requires
     skip-requires
-    cast-k
-    add-k
+    cast-done
+    add-done
     setpoint-place-requires
     word-at-requires
     cast-tick
     tick-requires
-    add-k-2
+    add-done-2
     loop-less
     loop-again
     loop-less-2

@@ -1,4 +1,4 @@
--- `frame::crc` meets its contract: r is the CRC of the i bytes passed. Assumes nothing.
+-- `frame::crc` meets its contract: `remainder` is the CRC of the i bytes passed. Assumes nothing.
 use mathlib.Core.Path.{_≡_, refl, ap, _∙_}
 use Prim.Native.Nat.{ℕ, _-_, _≤_}
 use native.Mathlib.Omega.{arith}
@@ -12,10 +12,10 @@ use Rattle.frame.proofs.crc.Statement.{statement}
 use Rattle.frame.proofs.crc.Tie as tie
 
 abbrev Inv-loop : tie.InvT-loop
-Inv-loop s r₀ i₀ r i = (i ≤ length s) × (r ≡ crcOf (ofBytes (take i s)))
+Inv-loop message remainder₀ i₀ remainder i = (i ≤ length message) × (remainder ≡ crcOf (ofBytes (take i message)))
 
 abbrev μ-loop : tie.MeasureT-loop
-μ-loop s r₀ i₀ r i = length s - i
+μ-loop message remainder₀ i₀ remainder i = length message - i
 
 loop-holds : tie.Need-loop-holds Inv-loop μ-loop
 unfolding crcOf
@@ -35,17 +35,17 @@ loop-less c = search needs
 
 loop-again : tie.Need-loop-again Inv-loop μ-loop
 loop-again c =
-    let s = now (c .before .before .before .before .before .args .s) in
+    let message = now (c .before .before .before .before .before .args .message) in
     let l = c .before .before .before .loop in (
       omega arith,
-      c .byte-crc .ensures ∙ ap (λ (x : ℕ). crcOf (bitXor x (getD s (l .i) 0))) (l .inv .1)
-          ∙ crc-more s (l .i) (omega arith) (c .before .shared-slice-known2 .given (l .i) .fits),
+      c .byte-crc .ensures ∙ ap (λ (x : ℕ). crcOf (bitXor x (getD message (l .i) 0))) (l .inv .1)
+          ∙ crc-more message (l .i) (omega arith) (c .before .shared-slice-known2 .given (l .i) .fits),
     )
 
 returns : tie.Need-returns Inv-loop μ-loop
 returns c =
-    let s = now (c .before .before .before .args .s) in
-    c .before .loop .inv .1 ∙ crc-all s (c .before .loop .i) (omega arith)
+    let message = now (c .before .before .before .args .message) in
+    c .before .loop .inv .1 ∙ crc-all message (c .before .loop .i) (omega arith)
 
 pub crc-spec : {M : Type 1} → statement M
 crc-spec =

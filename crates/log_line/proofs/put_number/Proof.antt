@@ -22,7 +22,7 @@ unfolding decimal
 returns c =
     let e0 = c .before .before .put-low .ensures in
     let e1 = c .before .before .before .before .before .before .put-high .ensures in
-    (omega arith, omega arith, simp (e0 .2, e1 .2) (pieces-2 (take (c .before .before .before .before .before .before .before .before .before .args .at) (now (c .before .before .before .before .before .before .before .before .before .args .out))) (high (c .before .before .before .before .before .before .before .before .before .args .n)) (low (c .before .before .before .before .before .before .before .before .before .args .n))))
+    (omega arith, omega arith, simp (e0 .2, e1 .2) (pieces-2 (take (c .before .before .before .before .before .before .before .before .before .args .at) (now (c .before .before .before .before .before .before .before .before .before .args .out))) (high (c .before .before .before .before .before .before .before .before .before .args .number)) (low (c .before .before .before .before .before .before .before .before .before .args .number))))
 
 pub put-number-spec : {M : Type 1} → statement M
 put-number-spec = tie.close (tie.spec put-high-requires put-low-requires same-length returns)

@@ -10,11 +10,11 @@ use Rattle.log_line.proofs.put_text.Statement.{statement}
 use Rattle.log_line.proofs.put_text.Tie as tie
 
 abbrev Inv-loop : tie.InvT-loop
-Inv-loop out₀ at text k₀ o₀ out k o =
-    (length out ≡ length out₀) × (k ≤ length text) × (o ≡ at + k) × (take o out ≡ take at out₀ ++ take k text)
+Inv-loop out₀ at text i₀ place₀ out i place =
+    (length out ≡ length out₀) × (i ≤ length text) × (place ≡ at + i) × (take place out ≡ take at out₀ ++ take i text)
 
 abbrev μ-loop : tie.MeasureT-loop
-μ-loop out₀ at text k₀ o₀ out k o = length text - k
+μ-loop out₀ at text i₀ place₀ out i place = length text - i
 
 loop-holds : tie.Need-loop-holds Inv-loop μ-loop
 loop-holds c = (refl, omega arith, omega arith, sym (append-nil _))
@@ -25,25 +25,25 @@ shared-slice-read-put c = omega arith
 put-requires : tie.Need-put-requires Inv-loop μ-loop
 put-requires c κs = omega arith
 
-add-k : tie.Need-add-k Inv-loop μ-loop
-add-k c = omega arith
+add-i : tie.Need-add-i Inv-loop μ-loop
+add-i c = omega arith
 
 loop-less : tie.Need-loop-less Inv-loop μ-loop
 loop-less c = omega arith
 
 loop-again : tie.Need-loop-again Inv-loop μ-loop
 loop-again c =
-    let i = c .before .before .before .before .before .before .loop .inv in
+    let inv = c .before .before .before .before .before .before .loop .inv in
     let a = c .before .before .before .before .before .before .before .before .before .args in
-    (omega arith, omega arith, omega arith, text-more (take (a .at) (now (a .out))) (now (a .text)) (c .before .before .before .before .before .before .loop .k) (c .before .before .before .before .before .loop-test .taken) (i .3) (c .before .before .put .ensures .1))
+    (omega arith, omega arith, omega arith, text-more (take (a .at) (now (a .out))) (now (a .text)) (c .before .before .before .before .before .before .loop .i) (c .before .before .before .before .before .loop-test .taken) (inv .3) (c .before .before .put .ensures .1))
 
 same-length : tie.Need-same-length Inv-loop μ-loop
 same-length c = omega arith
 
 returns : tie.Need-returns Inv-loop μ-loop
 returns c =
-    let i = c .before .loop .inv in
-    (omega arith, text-whole (take (c .before .before .before .before .args .at) (now (c .before .before .before .before .args .out))) (now (c .before .before .before .before .args .text)) (c .before .loop .k) (c .loop-test .left) (i .3))
+    let inv = c .before .loop .inv in
+    (omega arith, text-whole (take (c .before .before .before .before .args .at) (now (c .before .before .before .before .args .out))) (now (c .before .before .before .before .args .text)) (c .before .loop .i) (c .loop-test .left) (inv .3))
 
 pub put-text-spec : {M : Type 1} → statement M
 put-text-spec =
@@ -54,7 +54,7 @@ put-text-spec =
     loop-holds
     shared-slice-read-put
     put-requires
-    add-k
+    add-i
     loop-less
     loop-again
     same-length

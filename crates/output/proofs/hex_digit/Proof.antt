@@ -5,8 +5,8 @@ use borrow.Author.Needs.{needs}
 use Rattle.output.proofs.hex_digit.Statement.{statement}
 use Rattle.output.proofs.hex_digit.Tie as tie
 
-cast-d : tie.Need-cast-d
-cast-d c = search needs
+cast-digit : tie.Need-cast-digit
+cast-digit c = search needs
 
 add-result : tie.Need-add-result
 add-result c = search needs
@@ -23,4 +23,4 @@ unfolding hexDigit
 returns-2 c = simp (le-ltb _ _ (c .if1 .left))
 
 pub hex-digit-spec : {M : Type 1} → statement M
-hex-digit-spec = tie.close (tie.spec cast-d add-result returns add-result-2 returns-2)
+hex-digit-spec = tie.close (tie.spec cast-digit add-result returns add-result-2 returns-2)

@@ -28,7 +28,7 @@ returns c =
     let third = last .before in
     let second = third .before in
     let first = second .before in
-    hex-4 (first .before .args .x) (first .hex-digit .ensures) (second .hex-digit2 .ensures) (third .hex-digit3 .ensures) (last .hex-digit4 .ensures) (c .text .ensures)
+    hex-4 (first .before .args .number) (first .hex-digit .ensures) (second .hex-digit2 .ensures) (third .hex-digit3 .ensures) (last .hex-digit4 .ensures) (c .text .ensures)
 
 pub hex-four-spec : {M : Type 1} → statement M
 hex-four-spec =

@@ -5,10 +5,10 @@ use Rattle.printed_ticks.proofs.by_tick.Statement.{statement}
 use Rattle.printed_ticks.proofs.by_tick.Tie as tie
 
 abbrev Inv-loop : tie.InvT-loop
-Inv-loop block₀ before count one two three four k₀ block k = Unit {0}
+Inv-loop block₀ before count first second third fourth i₀ block i = Unit {0}
 
 abbrev μ-loop : tie.MeasureT-loop
-μ-loop block₀ before count one two three four k₀ block k = count - k
+μ-loop block₀ before count first second third fourth i₀ block i = count - i
 
 loop-holds : tie.Need-loop-holds Inv-loop μ-loop
 loop-holds c = search needs
@@ -55,8 +55,8 @@ element-copy-out-frame-4 c = search needs
 frame-requires-4 : tie.Need-frame-requires-4 Inv-loop μ-loop
 frame-requires-4 c κs = search needs
 
-add-k : tie.Need-add-k Inv-loop μ-loop
-add-k c = search needs
+add-i : tie.Need-add-i Inv-loop μ-loop
+add-i c = search needs
 
 loop-less : tie.Need-loop-less Inv-loop μ-loop
 loop-less c = search needs
@@ -88,7 +88,7 @@ by-tick-spec =
     mul-frame-4
     element-copy-out-frame-4
     frame-requires-4
-    add-k
+    add-i
     loop-less
     loop-again
     returns)

@@ -1,4 +1,4 @@
--- `registers::flipped` meets its contract: `a` is the active buffers with the first `i` switches taken up. Assumes nothing.
+-- `registers::flipped` meets its contract: `switched` is the active buffers with the first `i` switches taken up. Assumes nothing.
 use Prim.Native.Nat.{ℕ, _-_, _≤_}
 use mathlib.Core.Path.{_≡_, sym, ap, _∙_}
 use mathlib.Core.Bool.{Bool, false, not}
@@ -14,10 +14,10 @@ use Rattle.registers.proofs.flipped.Statement.{statement}
 use Rattle.registers.proofs.flipped.Tie as tie
 
 abbrev Inv-loop : tie.InvT-loop
-Inv-loop switches a₀ i₀ a i = (i ≤ 8) × (a ≡ flips a₀ (take i switches))
+Inv-loop switches switched₀ i₀ switched i = (i ≤ 8) × (switched ≡ flips switched₀ (take i switches))
 
 abbrev μ-loop : tie.MeasureT-loop
-μ-loop switches a₀ i₀ a i = 8 - i
+μ-loop switches switched₀ i₀ switched i = 8 - i
 
 eight : (c : tie.Start Inv-loop μ-loop) → length (c .args .t2) ≤ 8
 eight c = omega (arith, c .good)
@@ -28,11 +28,11 @@ loop-holds c = (omega arith, sym (flips-none (c .args .active)))
 array-read-if1 : tie.Need-array-read-if1 Inv-loop μ-loop
 array-read-if1 c = omega arith
 
-array-read-a : tie.Need-array-read-a Inv-loop μ-loop
-array-read-a c = omega arith
+array-read-switched : tie.Need-array-read-switched Inv-loop μ-loop
+array-read-switched c = omega arith
 
-array-write-a : tie.Need-array-write-a Inv-loop μ-loop
-array-write-a c = omega arith
+array-write-switched : tie.Need-array-write-switched Inv-loop μ-loop
+array-write-switched c = omega arith
 
 add-i : tie.Need-add-i Inv-loop μ-loop
 add-i c = omega arith
@@ -67,8 +67,8 @@ flipped-spec =
     μ-loop
     loop-holds
     array-read-if1
-    array-read-a
-    array-write-a
+    array-read-switched
+    array-write-switched
     add-i
     loop-less
     loop-again

@@ -1,15 +1,15 @@
--- `run_file::step` meets its contract: what it decodes is record k, and `apply` does it. Assumes nothing.
+-- `run_file::step` meets its contract: what it decodes is the record at the index, and `apply` does it. Assumes nothing.
 use mathlib.Core.Path.{_∙_}
 use native.Mathlib.Nat.{add-sub-cancel-left}
 use borrow.Author.Needs.{needs}
 use Rattle.run_file.proofs.step.Statement.{statement}
 use Rattle.run_file.proofs.step.Tie as tie
 
-mul-a : tie.Need-mul-a
-mul-a c = search needs
+mul-start : tie.Need-mul-start
+mul-start c = search needs
 
-add-e : tie.Need-add-e
-add-e c = search needs
+add-end : tie.Need-add-end
+add-end c = search needs
 
 sub-decode : tie.Need-sub-decode
 sub-decode c = search needs
@@ -45,8 +45,8 @@ pub step-spec : {M : Type 1} → statement M
 step-spec =
     tie.close
     (tie.spec
-    mul-a
-    add-e
+    mul-start
+    add-end
     sub-decode
     part-decode-start
     part-decode-end

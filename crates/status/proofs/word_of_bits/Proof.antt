@@ -1,4 +1,4 @@
--- `status::word_of_bits` meets its contract: `w` is the word of the bits from `k` on, as `k` goes down from 16 to 0. Assumes nothing.
+-- `status::word_of_bits` meets its contract: `word` is the word of the bits from `i` on, as `i` goes down from 16 to 0. Assumes nothing.
 use native.Mathlib.Omega.{arith}
 use Prim.Native.Nat.{ℕ, _+_, _-_, _*_, _≤_, _<_}
 use mathlib.Core.Path.{_≡_, ap, _∙_}
@@ -10,22 +10,22 @@ use Rattle.status.proofs.word_of_bits.Statement.{statement}
 use Rattle.status.proofs.word_of_bits.Tie as tie
 
 abbrev Inv-loop : tie.InvT-loop
-Inv-loop bits k₀ w₀ k w = (k ≤ 16) × (w ≡ wordOfBits (drop k bits))
+Inv-loop bits i₀ word₀ i word = (i ≤ 16) × (word ≡ wordOfBits (drop i bits))
 
 abbrev μ-loop : tie.MeasureT-loop
-μ-loop bits k₀ w₀ k w = k
+μ-loop bits i₀ word₀ i word = i
 
 sixteen : (c : tie.Start Inv-loop μ-loop) → length (c .args .t1) ≡ 16
 sixteen c = omega (arith, c .good)
 
-small : (c : tie.At-loop Inv-loop μ-loop) → c .loop .w < 65536
-small c = omega (arith, c .loop .inv .1, word-small (c .before .args .t1) (sixteen (c .before)) (c .loop .k))
+small : (c : tie.At-loop Inv-loop μ-loop) → c .loop .word < 65536
+small c = omega (arith, c .loop .inv .1, word-small (c .before .args .t1) (sixteen (c .before)) (c .loop .i))
 
 loop-holds : tie.Need-loop-holds Inv-loop μ-loop
 loop-holds c = (omega arith, word-none (c .args .t1) (sixteen c))
 
-sub-k : tie.Need-sub-k Inv-loop μ-loop
-sub-k c = omega arith
+sub-i : tie.Need-sub-i Inv-loop μ-loop
+sub-i c = omega arith
 
 array-read-pushed : tie.Need-array-read-pushed Inv-loop μ-loop
 array-read-pushed c = omega arith
@@ -42,8 +42,8 @@ loop-again c =
     let p = c .before .before .loop in (
       omega arith,
       c .pushed .ensures
-          ∙ ap (λ (w : ℕ). bitOf (getD (s .args .t1) (p .k - 1) false) + 2 * w) (p .inv .1)
-          ∙ word-back (s .args .t1) (sixteen s) (p .k) (omega arith) (omega arith),
+          ∙ ap (λ (word : ℕ). bitOf (getD (s .args .t1) (p .i - 1) false) + 2 * word) (p .inv .1)
+          ∙ word-back (s .args .t1) (sixteen s) (p .i) (omega arith) (omega arith),
     )
 
 cast-result : tie.Need-cast-result Inv-loop μ-loop
@@ -51,8 +51,8 @@ cast-result c = omega (arith, small (c .before))
 
 returns : tie.Need-returns Inv-loop μ-loop
 returns c =
-    let e : c .before .loop .k ≡ 0 = omega arith in
-    c .before .loop .inv .1 ∙ ap (λ (k : ℕ). wordOfBits (drop k (c .before .before .args .t1))) e
+    let e : c .before .loop .i ≡ 0 = omega arith in
+    c .before .loop .inv .1 ∙ ap (λ (i : ℕ). wordOfBits (drop i (c .before .before .args .t1))) e
 
 pub word-of-bits-spec : {M : Type 1} → statement M
 word-of-bits-spec =
@@ -61,7 +61,7 @@ word-of-bits-spec =
     Inv-loop
     μ-loop
     loop-holds
-    sub-k
+    sub-i
     array-read-pushed
     pushed-requires
     loop-less

@@ -15,11 +15,11 @@ abbrev μ-loop : tie.MeasureT-loop
 loop-holds : tie.Need-loop-holds Inv-loop μ-loop
 loop-holds c = search needs
 
-mul-a : tie.Need-mul-a Inv-loop μ-loop
-mul-a c = search needs
+mul-start : tie.Need-mul-start Inv-loop μ-loop
+mul-start c = search needs
 
-add-e : tie.Need-add-e Inv-loop μ-loop
-add-e c = search needs
+add-end : tie.Need-add-end Inv-loop μ-loop
+add-end c = search needs
 
 sub-decode : tie.Need-sub-decode Inv-loop μ-loop
 sub-decode c = search needs
@@ -61,8 +61,8 @@ play-spec =
     Inv-loop
     μ-loop
     loop-holds
-    mul-a
-    add-e
+    mul-start
+    add-end
     sub-decode
     part-decode-start
     part-decode-end

@@ -9,7 +9,7 @@ lowered-requires : tie.Need-lowered-requires
 lowered-requires c κs = search needs
 
 returns : tie.Need-returns
-returns c = ap (withLeft (c .before .args .s)) (c .lowered .ensures)
+returns c = ap (withLeft (c .before .args .sequencer)) (c .lowered .ensures)
 
 pub left-lowered-spec : {M : Type 1} → statement M
 left-lowered-spec = tie.close (tie.spec lowered-requires returns)

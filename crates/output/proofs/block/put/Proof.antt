@@ -10,13 +10,13 @@ use Rattle.output.proofs.block.put.Statement.{statement}
 use Rattle.output.proofs.block.put.Tie as tie
 
 abbrev Inv-loop : tie.InvT-loop
-Inv-loop block₀ n bytes i₀ block i = (i ≤ length bytes) × (block ≡ paste block₀ n bytes i)
+Inv-loop block₀ gathered bytes i₀ block i = (i ≤ length bytes) × (block ≡ paste block₀ gathered bytes i)
 
 abbrev μ-loop : tie.MeasureT-loop
-μ-loop block₀ n bytes i₀ block i = length bytes - i
+μ-loop block₀ gathered bytes i₀ block i = length bytes - i
 
 loop-holds : tie.Need-loop-holds Inv-loop μ-loop
-loop-holds c = let a = c .before .args in (omega arith, paste-zero (now (a .block)) (a .n) (now (a .bytes)))
+loop-holds c = let a = c .before .args in (omega arith, paste-zero (now (a .block)) (a .gathered) (now (a .bytes)))
 
 shared-slice-read-block : tie.Need-shared-slice-read-block Inv-loop μ-loop
 shared-slice-read-block c = omega arith

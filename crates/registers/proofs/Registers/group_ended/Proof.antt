@@ -4,11 +4,11 @@ use borrow.Author.Needs.{needs}
 use Rattle.registers.proofs.Registers.group_ended.Statement.{statement}
 use Rattle.registers.proofs.Registers.group_ended.Tie as tie
 
-array-read-a : tie.Need-array-read-a
-array-read-a c = search needs
+array-read-active : tie.Need-array-read-active
+array-read-active c = search needs
 
-array-write-a : tie.Need-array-write-a
-array-write-a c = search needs
+array-write-active : tie.Need-array-write-active
+array-write-active c = search needs
 
 flipped-requires : tie.Need-flipped-requires
 flipped-requires c κs = search needs
@@ -18,4 +18,4 @@ unfolding groupEnded
 returns c = simp (c .flipped .ensures)
 
 pub group-ended-spec : {M : Type 1} → statement M
-group-ended-spec = tie.close (tie.spec array-read-a array-write-a flipped-requires returns)
+group-ended-spec = tie.close (tie.spec array-read-active array-write-active flipped-requires returns)

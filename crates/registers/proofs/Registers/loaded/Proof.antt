@@ -75,8 +75,8 @@ returns-6 c =
       ne-eqb _ _ (c .before .before .before .before .before .if1 .left),
     )
 
-sub-i : tie.Need-sub-i
-sub-i c = omega arith
+sub-place : tie.Need-sub-place
+sub-place c = omega arith
 
 mul-result : tie.Need-mul-result
 mul-result c = omega arith
@@ -103,8 +103,8 @@ returns-8 c =
       ne-eqb _ _ (c .before .before .before .before .before .before .before .if1 .left),
     )
 
-sub-i-2 : tie.Need-sub-i-2
-sub-i-2 c = omega arith
+sub-place-2 : tie.Need-sub-place-2
+sub-place-2 c = omega arith
 
 mul-delay-shown : tie.Need-mul-delay-shown
 mul-delay-shown c = omega arith
@@ -149,12 +149,12 @@ loaded-spec =
     cast-result-3
     returns-5
     returns-6
-    sub-i
+    sub-place
     mul-result
     array-read-result
     returns-7
     returns-8
-    sub-i-2
+    sub-place-2
     mul-delay-shown
     array-read-delay-shown
     delay-shown-requires

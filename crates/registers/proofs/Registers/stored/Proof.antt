@@ -13,8 +13,8 @@ returns : tie.Need-returns
 unfolding stored
 returns c = simp (eq-eqb _ _ (c .if1 .taken))
 
-cast-r : tie.Need-cast-r
-cast-r c = omega arith
+cast-next : tie.Need-cast-next
+cast-next c = omega arith
 
 returns-2 : tie.Need-returns-2
 unfolding stored
@@ -29,14 +29,14 @@ returns-3 c =
       ne-eqb _ _ (c .before .before .if1 .left),
     )
 
-sub-i : tie.Need-sub-i
-sub-i c = omega arith
+sub-place : tie.Need-sub-place
+sub-place c = omega arith
 
-mul-r : tie.Need-mul-r
-mul-r c = omega arith
+mul-next : tie.Need-mul-next
+mul-next c = omega arith
 
-element-write-r : tie.Need-element-write-r
-element-write-r c = omega arith
+element-write-next : tie.Need-element-write-next
+element-write-next c = omega arith
 
 returns-4 : tie.Need-returns-4
 returns-4 c = let a = c .before .before .before .before .args in sym (event-stored (a .self) (a .offset) (omega arith) (omega arith) (a .value))
@@ -52,11 +52,11 @@ returns-5 c =
       ne-eqb _ _ (c .before .before .before .before .if1 .left),
     )
 
-sub-i-2 : tie.Need-sub-i-2
-sub-i-2 c = omega arith
+sub-place-2 : tie.Need-sub-place-2
+sub-place-2 c = omega arith
 
-element-write-r-2 : tie.Need-element-write-r-2
-element-write-r-2 c = omega arith
+element-write-next-2 : tie.Need-element-write-next-2
+element-write-next-2 c = omega arith
 
 returns-6 : tie.Need-returns-6
 unfolding stored
@@ -71,8 +71,8 @@ returns-6 c =
       ne-eqb _ _ (c .before .before .before .before .before .if1 .left),
     )
 
-sub-i-3 : tie.Need-sub-i-3
-sub-i-3 c = omega arith
+sub-place-3 : tie.Need-sub-place-3
+sub-place-3 c = omega arith
 
 mul-old : tie.Need-mul-old
 mul-old c = omega arith
@@ -83,11 +83,11 @@ element-copy-out-old c = omega arith
 delay-written-requires : tie.Need-delay-written-requires
 delay-written-requires c κs = search needs
 
-mul-r-2 : tie.Need-mul-r-2
-mul-r-2 c = omega arith
+mul-next-2 : tie.Need-mul-next-2
+mul-next-2 c = omega arith
 
-element-write-r-3 : tie.Need-element-write-r-3
-element-write-r-3 c = omega arith
+element-write-next-3 : tie.Need-element-write-next-3
+element-write-next-3 c = omega arith
 
 returns-7 : tie.Need-returns-7
 returns-7 c =
@@ -112,22 +112,22 @@ stored-spec =
     tie.close
     (tie.spec
     returns
-    cast-r
+    cast-next
     returns-2
     returns-3
-    sub-i
-    mul-r
-    element-write-r
+    sub-place
+    mul-next
+    element-write-next
     returns-4
     returns-5
-    sub-i-2
-    element-write-r-2
+    sub-place-2
+    element-write-next-2
     returns-6
-    sub-i-3
+    sub-place-3
     mul-old
     element-copy-out-old
     delay-written-requires
-    mul-r-2
-    element-write-r-3
+    mul-next-2
+    element-write-next-3
     returns-7
     returns-8)

@@ -6,8 +6,8 @@ use Rattle.sequencer.specs.Playing.{answered}
 use Rattle.sequencer.proofs.Sequencer.answered.Statement.{statement}
 use Rattle.sequencer.proofs.Sequencer.answered.Tie as tie
 
-add-l : tie.Need-add-l
-add-l c = search needs
+add-last : tie.Need-add-last
+add-last c = search needs
 
 returns : tie.Need-returns
 unfolding answered
@@ -18,4 +18,4 @@ returns c =
     (c .if1 .came)
 
 pub answered-spec : {M : Type 1} → statement M
-answered-spec = tie.close (tie.spec add-l returns)
+answered-spec = tie.close (tie.spec add-last returns)

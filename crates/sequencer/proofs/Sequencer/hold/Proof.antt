@@ -12,8 +12,8 @@ returns : tie.Need-returns
 unfolding repeating
 returns c = simp (c .repeat .ensures, le-leb _ _ (c .before .if1 .taken))
 
-sub-s : tie.Need-sub-s
-sub-s c = search needs
+sub-next : tie.Need-sub-next
+sub-next c = search needs
 
 quiet-requires : tie.Need-quiet-requires
 quiet-requires c κs = search needs
@@ -23,4 +23,4 @@ unfolding repeating
 returns-2 c = simp (c .quiet .ensures, lt-leb _ _ (c .before .if1 .left))
 
 pub hold-spec : {M : Type 1} → statement M
-hold-spec = tie.close (tie.spec repeat-requires returns sub-s quiet-requires returns-2)
+hold-spec = tie.close (tie.spec repeat-requires returns sub-next quiet-requires returns-2)

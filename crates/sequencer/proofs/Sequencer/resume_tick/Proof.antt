@@ -12,8 +12,8 @@ returns : tie.Need-returns
 unfolding resuming
 returns c = simp (c .send-next .ensures, le-leb _ _ (c .before .if1 .taken))
 
-sub-s : tie.Need-sub-s
-sub-s c = search needs
+sub-next : tie.Need-sub-next
+sub-next c = search needs
 
 quiet-requires : tie.Need-quiet-requires
 quiet-requires c κs = search needs
@@ -31,4 +31,4 @@ returns-3 c = simp (c .hold .ensures, lt-leb _ _ (c .before .if2 .left), lt-leb 
 
 pub resume-tick-spec : {M : Type 1} → statement M
 resume-tick-spec =
-    tie.close (tie.spec send-next-requires returns sub-s quiet-requires returns-2 hold-requires returns-3)
+    tie.close (tie.spec send-next-requires returns sub-next quiet-requires returns-2 hold-requires returns-3)

@@ -12,15 +12,15 @@ use Rattle.status.specs.declared.Latches.{Latches}
 use Rattle.status.proofs.Latches.latched.Statement.{statement}
 use Rattle.status.proofs.Latches.latched.Tie as tie
 
-element-write-l : tie.Need-element-write-l
-element-write-l c = search needs
+element-write-next : tie.Need-element-write-next
+element-write-next c = search needs
 
 -- what owning `self` tells of its first field
 sixteen : (c : tie.Start) → length (c .args .self .bits) ≡ 16
 sixteen c = simp length-map at (c .good .0 .1 .1 .0 .1 .0 .1)
 
 -- where the arms meet: as if not enabled
-stored : (c : tie.Joined1) → c .if1 .l ≡ latchedIn (c .before .args .self) (c .before .args .bit) false
+stored : (c : tie.Joined1) → c .if1 .next ≡ latchedIn (c .before .args .self) (c .before .args .bit) false
 stored c =
     let a = c .before .args in
     ⊎-elim
@@ -35,4 +35,4 @@ returns-2 : tie.Need-returns-2
 returns-2 c = rw (c .if2 .left) (stored (c .before))
 
 pub latched-spec : {M : Type 1} → statement M
-latched-spec = tie.close (tie.spec element-write-l returns returns-2)
+latched-spec = tie.close (tie.spec element-write-next returns returns-2)
