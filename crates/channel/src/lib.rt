@@ -1,10 +1,10 @@
 // The calls that name a channel, over the channel by value and its own part of the lent memory. They know no board and no other channel.
 use channel_core::Channel;
 use refusal::Refusal;
-use register_map::Verdict;
+use refusal::Verdict;
 use registers::Registers;
 ghost use mathlib.Core.Path.{_≡_};
-ghost use Rattle.register_map.specs.Verdicts.{verdictNumber};
+ghost use Rattle.refusal.specs.Refusals.{verdictNumber};
 ghost use Rattle.channel.specs.Answers.{outcomeOf, shownOf, lengthOf};
 ghost use Rattle.channel.specs.Calls.{registerRefusal, registerEffect, registerWords, writtenOf, writtenAnswer, writtenWords, readEffect, readValue, readOf, readAnswer, outside, activeBuffer, setpointRefusal, setpointAnswer, setpointWords, setArmed, retiredWords, retiredLength, mainBit, mainTaken};
 

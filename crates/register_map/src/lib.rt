@@ -3,8 +3,10 @@ ghost use mathlib.Core.Path.{_≡_};
 ghost use Prim.Native.Nat.{_<_};
 ghost use Rattle.register_map.specs.Addresses.{named, namedOf};
 ghost use Rattle.register_map.specs.AccessRule.{channelAccess, entryAccess, mainAccess};
-ghost use Rattle.register_map.specs.Verdicts.{readRefusal, verdictNumber, writeRefusal};
+ghost use Rattle.register_map.specs.AccessRefusals.{readRefusal, writeRefusal};
+ghost use Rattle.refusal.specs.Refusals.{verdictNumber};
 use refusal::Refusal;
+use refusal::Verdict;
 
 // What an address names: Main or a channel (1 to 4), with the offset from its start, or neither (2800h and above).
 pub enum Region {
@@ -19,12 +21,6 @@ pub enum Access {
     ReadOnly,
     WriteOnly,
     ReadWrite,
-}
-
-// Whether a call is refused. A read or a write by its access: allowed, or refused 3 or 4.
-pub enum Verdict {
-    Allowed,
-    Refused(Refusal),
 }
 
 // "A register call names the channel in whose 0800h its address falls; below 0800h is Main; 2800h and above is refused 3."

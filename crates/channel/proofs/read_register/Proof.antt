@@ -3,7 +3,8 @@ use Rattle.refusal.proofs.Laws.{refuses}
 use Rattle.channel.specs.Calls.{readOf, readAnswer}
 use mathlib.Core.Path.{_≡_, ap, _∙_}
 use Rattle.register_map.specs.AccessRule.{channelAccess}
-use Rattle.register_map.specs.Verdicts.{verdictNumber, readRefusal}
+use Rattle.register_map.specs.AccessRefusals.{readRefusal}
+use Rattle.refusal.specs.Refusals.{verdictNumber}
 use borrow.Author.Needs.{needs}
 use Rattle.channel.proofs.read_register.Statement.{statement}
 use Rattle.channel.proofs.read_register.Tie as tie

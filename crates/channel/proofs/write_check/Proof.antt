@@ -4,7 +4,8 @@ use Rattle.channel.specs.Calls.{registerRefusal}
 use borrow.Author.Tests.{lt-ltb, le-ltb, eq-eqb, ne-eqb}
 use mathlib.Core.Path.{_≡_, ap, _∙_}
 use Rattle.register_map.specs.AccessRule.{channelAccess}
-use Rattle.register_map.specs.Verdicts.{verdictNumber, writeRefusal}
+use Rattle.register_map.specs.AccessRefusals.{writeRefusal}
+use Rattle.refusal.specs.Refusals.{verdictNumber}
 use borrow.Author.Needs.{needs}
 use Rattle.channel.proofs.write_check.Statement.{statement}
 use Rattle.channel.proofs.write_check.Tie as tie
