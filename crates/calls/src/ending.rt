@@ -1,7 +1,7 @@
 // The last six lines (tests/CALLS.md, The end): the pools' digest, the interrupt level, the retired counts, and every register.
 use board_state::Board;
 use call_script::pool;
-use channel::Shown;
+use channel::ReadOutcome;
 use output::Block;
 
 fn value(block: &mut Block, v: u16) {
@@ -13,10 +13,10 @@ fn value(block: &mut Block, v: u16) {
 fn register(block: &mut Block, b: Board, address: u32) -> Board {
     let w = board_registers::read_register(b, address);
     let board = w.board;
-    let shown = w.shown;
-    match shown {
-        Shown::Value(v) => value(block, v),
-        Shown::Refused(_) => {}
+    let outcome = w.outcome;
+    match outcome {
+        ReadOutcome::Value(v) => value(block, v),
+        ReadOutcome::Refused(_) => {}
     }
     board
 }

@@ -5,7 +5,7 @@ use refusal::Verdict;
 use registers::Registers;
 ghost use mathlib.Core.Path.{_≡_};
 ghost use Rattle.refusal.specs.Refusals.{verdictNumber};
-ghost use Rattle.channel.specs.Answers.{outcomeOf, shownOf, lengthOf};
+ghost use Rattle.channel.specs.Answers.{outcomeOf, readOutcomeOf, lengthOf};
 ghost use Rattle.channel.specs.Calls.{registerRefusal, registerEffect, registerWords, writtenOf, writtenAnswer, writtenWords, readEffect, readValue, readOf, readAnswer, outside, activeBuffer, setpointRefusal, setpointAnswer, setpointWords, setArmed, retiredWords, retiredLength, mainBit, mainTaken};
 
 // The answer of a call that has nothing to tell but that it was done.
@@ -15,7 +15,7 @@ pub enum Outcome {
 }
 
 // The answer of a register read.
-pub enum Shown {
+pub enum ReadOutcome {
     Value(u16),
     Refused(Refusal),
 }
@@ -33,7 +33,7 @@ pub struct Written {
 
 pub struct Read {
     pub channel: Channel,
-    pub shown: Shown,
+    pub outcome: ReadOutcome,
 }
 
 // A channel after its bit in a Main status is read, and the bit.
@@ -146,17 +146,17 @@ fn read_effect(c: Channel, offset: u16) -> Channel
 }
 
 pub fn read_register(c: Channel, offset: u16) -> Read
-    ensures { λ r. ⌜ (r .channel ≡ readOf c offset) × (shownOf (r .shown) ≡ readAnswer c offset) ⌝ }
+    ensures { λ r. ⌜ (r .channel ≡ readOf c offset) × (readOutcomeOf (r .outcome) ≡ readAnswer c offset) ⌝ }
 {
     let v = register_map::read_verdict(register_map::channel_access(offset));
     match v {
         Verdict::Allowed => Read {
             channel: read_effect(c, offset),
-            shown: Shown::Value(read_value(c, offset)),
+            outcome: ReadOutcome::Value(read_value(c, offset)),
         },
         Verdict::Refused(k) => Read {
             channel: c,
-            shown: Shown::Refused(k),
+            outcome: ReadOutcome::Refused(k),
         },
     }
 }

@@ -5,7 +5,7 @@ use call_script::lent;
 use call_script::pool;
 use channel::Outcome;
 use channel::PartLength;
-use channel::Shown;
+use channel::ReadOutcome;
 use channel_core::Receipt;
 use output::Block;
 use refusal::Refusal;
@@ -30,10 +30,10 @@ fn value(block: &mut Block, v: u16) {
     output::hex_value(block, v);
 }
 
-fn shown(block: &mut Block, s: Shown) {
-    match s {
-        Shown::Value(v) => value(block, v),
-        Shown::Refused(k) => refused(block, k),
+fn read_outcome(block: &mut Block, o: ReadOutcome) {
+    match o {
+        ReadOutcome::Value(v) => value(block, v),
+        ReadOutcome::Refused(k) => refused(block, k),
     }
 }
 
@@ -74,8 +74,8 @@ pub fn write_register(
 pub fn read_register(block: &mut Block, b: Board, address: u32) -> Board {
     let w = board_registers::read_register(b, address);
     let board = w.board;
-    let s = w.shown;
-    shown(block, s);
+    let o = w.outcome;
+    read_outcome(block, o);
     board
 }
 

@@ -51,10 +51,10 @@ fn read(s: RunState, address: u32) -> RunState
     let c = s.counts;
     let w = board_registers::read_register(b, address);
     let board = w.board;
-    let shown = w.shown;
+    let outcome = w.outcome;
     RunState {
         board: board,
-        counts: c.read(shown),
+        counts: c.read(outcome),
     }
 }
 
