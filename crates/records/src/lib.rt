@@ -77,9 +77,9 @@ pub fn records<'a>(file: &'a [u8]) -> &'a [u8]
 {
     let answer = records_length(file);
     match answer {
-        RecordsLength::Bytes(k) => {
+        RecordsLength::Bytes(length) => {
             let end = file.len() - 8;
-            let start = end - k;
+            let start = end - length;
             &file[start..end]
         }
         RecordsLength::Refused(_) => &file[..0],

@@ -216,10 +216,10 @@ pub fn main_access(offset: u16) -> Access
 }
 
 // 3 "address not in the map", 4 "read of a write-only one"
-pub fn read_verdict(a: Access) -> Verdict
-    ensures { λ r. ⌜ verdictNumber r ≡ readRefusal a ⌝ }
+pub fn read_verdict(access: Access) -> Verdict
+    ensures { λ r. ⌜ verdictNumber r ≡ readRefusal access ⌝ }
 {
-    match a {
+    match access {
         Access::None => Verdict::Refused(Refusal::UnmappedRegister),
         Access::ReadOnly => Verdict::Allowed,
         Access::WriteOnly => Verdict::Refused(Refusal::AccessViolation),
@@ -228,10 +228,10 @@ pub fn read_verdict(a: Access) -> Verdict
 }
 
 // 3 "address not in the map", 4 "write to a read-only register"
-pub fn write_verdict(a: Access) -> Verdict
-    ensures { λ r. ⌜ verdictNumber r ≡ writeRefusal a ⌝ }
+pub fn write_verdict(access: Access) -> Verdict
+    ensures { λ r. ⌜ verdictNumber r ≡ writeRefusal access ⌝ }
 {
-    match a {
+    match access {
         Access::None => Verdict::Refused(Refusal::UnmappedRegister),
         Access::ReadOnly => Verdict::Refused(Refusal::AccessViolation),
         Access::WriteOnly => Verdict::Allowed,
