@@ -2,14 +2,14 @@
 use board_state::Board;
 use board_state::Written;
 use channel::Outcome;
-use channel::Shown;
+use channel::ReadOutcome;
 use refusal::Refusal;
+use refusal::Verdict;
 use register_map::Region;
-use register_map::Verdict;
 ghost use mathlib.Core.Path.{_≡_};
 ghost use Prim.Native.Nat.{_*_, _≤_};
 ghost use lib.ListN.{length};
-ghost use Rattle.channel.specs.Answers.{outcomeOf, shownOf};
+ghost use Rattle.channel.specs.Answers.{outcomeOf, readOutcomeOf};
 ghost use Rattle.channel.specs.Calls.{writtenOf, writtenAnswer, writtenWords};
 ghost use Rattle.register_map.specs.Addresses.{main, channel};
 ghost use Rattle.board_state.specs.State.{channelAt, withChannelAt};
@@ -19,7 +19,7 @@ ghost use Rattle.board_registers.specs.Calls.{writeBoardAt, writeAnswerA
 
 pub struct Read {
     pub board: Board,
-    pub shown: Shown,
+    pub outcome: ReadOutcome,
 }
 
 // A write to a channel's register, over its part of the readbacks.
@@ -79,36 +79,36 @@ pub fn write_register(b: Board, readbacks: &mut [u32], address: u32, value: u16)
 
 // A read of a Main register.
 fn read_main(b: Board, offset: u16) -> Read
-    ensures { λ r. ⌜ (r .board ≡ readBoardAt (main offset) b) × (shownOf (r .shown) ≡ readAnswerAt (main offset) b) ⌝ }
+    ensures { λ r. ⌜ (r .board ≡ readBoardAt (main offset) b) × (readOutcomeOf (r .outcome) ≡ readAnswerAt (main offset) b) ⌝ }
 {
     let verdict = register_map::read_verdict(register_map::main_access(offset));
     match verdict {
         Verdict::Allowed => Read {
             board: b.main_read(offset),
-            shown: Shown::Value(b.main_value(offset)),
+            outcome: ReadOutcome::Value(b.main_value(offset)),
         },
         Verdict::Refused(reason) => Read {
             board: b,
-            shown: Shown::Refused(reason),
+            outcome: ReadOutcome::Refused(reason),
         },
     }
 }
 
 // A read of a channel's register.
 fn read_channel(b: Board, number: u8, offset: u16) -> Read
-    ensures { λ r. ⌜ (r .board ≡ readBoardAt (channel number offset) b) × (shownOf (r .shown) ≡ readAnswerAt (channel number offset) b) ⌝ }
+    ensures { λ r. ⌜ (r .board ≡ readBoardAt (channel number offset) b) × (readOutcomeOf (r .outcome) ≡ readAnswerAt (channel number offset) b) ⌝ }
 {
     let read = channel::read_register(b.channel(number), offset);
     let changed = read.channel;
-    let shown = read.shown;
+    let outcome = read.outcome;
     Read {
         board: b.with_channel(number, changed),
-        shown: shown,
+        outcome: outcome,
     }
 }
 
 pub fn read_register(b: Board, address: u32) -> Read
-    ensures { λ r. ⌜ (r .board ≡ readBoard b address) × (shownOf (r .shown) ≡ readAnswer b address) ⌝ }
+    ensures { λ r. ⌜ (r .board ≡ readBoard b address) × (readOutcomeOf (r .outcome) ≡ readAnswer b address) ⌝ }
 {
     let region = register_map::decode_address(address);
     match region {
@@ -116,7 +116,7 @@ pub fn read_register(b: Board, address: u32) -> Read
         Region::Channel { number, offset } => read_channel(b, number, offset),
         Region::Outside => Read {
             board: b,
-            shown: Shown::Refused(Refusal::UnmappedRegister),
+            outcome: ReadOutcome::Refused(Refusal::UnmappedRegister),
         },
     }
 }

@@ -1,9 +1,10 @@
--- A script's bytes (tests/CALLS.md: its head, Header, Records).
-use Prim.Native.Nat.{ℕ, _+_, _-_, _*_, _/_, _%_, _^_}
+-- A script's bytes (tests/CALLS.md: its head, Header, Records). "All numbers are unsigned and little-endian."
+use Prim.Native.Nat.{ℕ, _+_, _-_, _*_, _/_, _%_}
 use mathlib.Core.Bool.{cond}
 use lib.Dec.{ltb, eqb}
 use mathlib.Core.List.{List}
 use lib.ListN.{getD}
+use Rattle.little_endian.specs.Numbers.{number32}
 use Rattle.call_script.specs.declared.script.Header.{Header}
 use Rattle.call_script.specs.declared.script.Record.{Record}
 use Rattle.call_script.specs.declared.script.Records.{Records}
@@ -13,13 +14,9 @@ use Rattle.call_script.specs.declared.script.Records.the-variants.{Count
 unfoldable pub recordsOf : ℕ → Records
 recordsOf size = cond (ltb size 16) Bad (cond (ltb 65536 size) Bad (cond (eqb (size % 16) 0) (Count (size / 16 - 1)) Bad))
 
--- "All numbers are unsigned and little-endian": four bytes, low first
-unfoldable pub wordAt : List ℕ → ℕ → ℕ
-wordAt s at = getD s at 0 + getD s (at + 1) 0 * 2 ^ 8 + getD s (at + 2) 0 * 2 ^ 16 + getD s (at + 3) 0 * 2 ^ 24
-
 -- Header: N, M, seed, mask
 unfoldable pub headerOf : List ℕ → Header
-headerOf s = record { n = wordAt s 0; m = wordAt s 4; seed = wordAt s 8; mask = wordAt s 12 }
+headerOf s = record { n = number32 s 0; m = number32 s 4; seed = number32 s 8; mask = number32 s 12 }
 
 -- Records, K from 1: kind, c, lent code, b, x, y, z
 unfoldable pub recordAt : List ℕ → ℕ → Record
@@ -29,7 +26,7 @@ recordAt s k =
       channel = getD s (k * 16 + 1) 0;
       lent = getD s (k * 16 + 2) 0;
       buffer = getD s (k * 16 + 3) 0;
-      x = wordAt s (k * 16 + 4);
-      y = wordAt s (k * 16 + 8);
-      z = wordAt s (k * 16 + 12);
+      x = number32 s (k * 16 + 4);
+      y = number32 s (k * 16 + 8);
+      z = number32 s (k * 16 + 12);
     }

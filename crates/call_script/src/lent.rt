@@ -12,11 +12,11 @@ fn takes_setpoints(kind: u8) -> bool {
 }
 
 // Whether the words a record lends are of the setpoint pool: code 3 lends the other pool's.
-pub fn is_of_setpoints(r: Record) -> bool {
-    if r.lent == 3 {
-        return !takes_setpoints(r.kind);
+pub fn is_of_setpoints(record: Record) -> bool {
+    if record.lent == 3 {
+        return !takes_setpoints(record.kind);
     }
-    takes_setpoints(r.kind)
+    takes_setpoints(record.kind)
 }
 
 // One fewer, and 0 for 0.
@@ -42,11 +42,11 @@ fn length_by_code(code: u8, right: usize) -> usize
 }
 
 // How many words a record lends, on a board of these depths; a pool that has fewer lends all it has.
-pub fn length_of(r: Record, n: u32, m: u32) -> usize {
-    if takes_setpoints(r.kind) {
-        return length_by_code(r.lent, n as usize * 64);
+pub fn length_of(record: Record, n: u32, m: u32) -> usize {
+    if takes_setpoints(record.kind) {
+        return length_by_code(record.lent, n as usize * 64);
     }
-    length_by_code(r.lent, m as usize * 8)
+    length_by_code(record.lent, m as usize * 8)
 }
 
 // A channel's place from 0; 0 for a number that is no channel's.

@@ -16,21 +16,21 @@ fn least(a: usize, b: usize) -> usize
 }
 
 // As many words as asked for, or all that there are. The contract is what lending `&words[..r]` asks.
-fn at_most(words: &[u32], n: usize) -> usize
+fn at_most(words: &[u32], count: usize) -> usize
     ensures { λ r. ⌜ Counts r (now (words .entry)) ⌝ }
 {
-    least(n, words.len())
+    least(count, words.len())
 }
 
 // The first words of a pool, as many as asked for or all that there are.
-pub fn front<'a>(pool: &'a [u32], n: usize) -> &'a [u32] {
-    let i = at_most(pool, n);
-    &pool[..i]
+pub fn front<'a>(pool: &'a [u32], count: usize) -> &'a [u32] {
+    let end = at_most(pool, count);
+    &pool[..end]
 }
 
-pub fn front_mut<'a>(pool: &'a mut [u32], n: usize) -> &'a mut [u32] {
-    let i = at_most(pool, n);
-    &mut pool[..i]
+pub fn front_mut<'a>(pool: &'a mut [u32], count: usize) -> &'a mut [u32] {
+    let end = at_most(pool, count);
+    &mut pool[..end]
 }
 
 // The words of a span, as far as the pool has them.
@@ -43,9 +43,9 @@ pub fn part<'a>(pool: &'a [u32], span: Span) -> &'a [u32] {
 fn xorshifted(s: u32) -> u32
     ensures { λ r. ⌜ r ≡ xorshift s ⌝ }
 {
-    let a = s ^ (s % 0x8_0000 * 0x2000);
-    let b = a ^ (a / 0x2_0000);
-    b ^ (b % 0x800_0000 * 0x20)
+    let first = s ^ (s % 0x8_0000 * 0x2000);
+    let second = first ^ (first / 0x2_0000);
+    second ^ (second % 0x800_0000 * 0x20)
 }
 
 // The state that a seed starts from.
@@ -57,21 +57,21 @@ fn seeded(seed: u32) -> u32 {
 }
 
 // Fills one pool through a mask, and answers the state after it.
-fn fill_one(words: &mut [u32], state: u32, mask: u32) -> u32 {
-    let mut s = state;
+fn fill_one(words: &mut [u32], start: u32, mask: u32) -> u32 {
+    let mut state = start;
     let mut i: usize = 0;
     while i < words.len() {
-        s = xorshifted(s);
-        words[i] = s & mask;
+        state = xorshifted(state);
+        words[i] = state & mask;
         i += 1;
     }
-    s
+    state
 }
 
 // Fills the setpoint pool through the mask, then the readback pool without it.
 pub fn fill(setpoints: &mut [u32], readbacks: &mut [u32], seed: u32, mask: u32) {
-    let s = fill_one(setpoints, seeded(seed), mask);
-    fill_one(readbacks, s, 0xffff_ffff);
+    let state = fill_one(setpoints, seeded(seed), mask);
+    fill_one(readbacks, state, 0xffff_ffff);
 }
 
 // Where an FNV-1a digest starts from.
@@ -88,30 +88,30 @@ fn times_prime(x: u64) -> u64
 }
 
 // One step of FNV-1a.
-fn hashed_byte(h: u64, byte: u64) -> u64
-    ensures { λ r. ⌜ r ≡ hashed h byte ⌝ }
+fn hashed_byte(hash: u64, byte: u64) -> u64
+    ensures { λ r. ⌜ r ≡ hashed hash byte ⌝ }
 {
-    times_prime(h ^ byte)
+    times_prime(hash ^ byte)
 }
 
 // A word's four bytes, low first.
-fn hashed_word(h: u64, word: u32) -> u64 {
-    let w = word as u64;
-    let a = hashed_byte(h, w % 256);
-    let b = hashed_byte(a, w / 0x100 % 256);
-    let c = hashed_byte(b, w / 0x1_0000 % 256);
-    hashed_byte(c, w / 0x100_0000)
+fn hashed_word(hash: u64, word: u32) -> u64 {
+    let number = word as u64;
+    let first = hashed_byte(hash, number % 256);
+    let second = hashed_byte(first, number / 0x100 % 256);
+    let third = hashed_byte(second, number / 0x1_0000 % 256);
+    hashed_byte(third, number / 0x100_0000)
 }
 
 // The digest goes on over these words.
-fn hashed_words(words: &[u32], h: u64) -> u64 {
-    let mut d = h;
+fn hashed_words(words: &[u32], start: u64) -> u64 {
+    let mut hash = start;
     let mut i: usize = 0;
     while i < words.len() {
-        d = hashed_word(d, words[i]);
+        hash = hashed_word(hash, words[i]);
         i += 1;
     }
-    d
+    hash
 }
 
 // The digest of both pools.

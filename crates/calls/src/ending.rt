@@ -1,7 +1,7 @@
 // The last six lines (tests/CALLS.md, The end): the pools' digest, the interrupt level, the retired counts, and every register.
 use board_state::Board;
 use call_script::pool;
-use channel::Shown;
+use channel::ReadOutcome;
 use output::Block;
 
 fn value(block: &mut Block, contents: u16) {
@@ -13,10 +13,10 @@ fn value(block: &mut Block, contents: u16) {
 fn register(block: &mut Block, b: Board, address: u32) -> Board {
     let read = board_registers::read_register(b, address);
     let board = read.board;
-    let shown = read.shown;
-    match shown {
-        Shown::Value(contents) => value(block, contents),
-        Shown::Refused(_) => {}
+    let outcome = read.outcome;
+    match outcome {
+        ReadOutcome::Value(contents) => value(block, contents),
+        ReadOutcome::Refused(_) => {}
     }
     board
 }

@@ -5,8 +5,8 @@ use Rattle.channel_core.specs.Answers.{Answer}
 use Rattle.channel_core.specs.Answers as ans
 use Rattle.channel.specs.declared.Outcome.{Outcome}
 use Rattle.channel.specs.declared.Outcome.the-variants as outcome
-use Rattle.channel.specs.declared.Shown.{Shown}
-use Rattle.channel.specs.declared.Shown.the-variants as shown
+use Rattle.channel.specs.declared.ReadOutcome.{ReadOutcome}
+use Rattle.channel.specs.declared.ReadOutcome.the-variants as read
 use Rattle.channel.specs.declared.PartLength.{PartLength}
 use Rattle.channel.specs.declared.PartLength.the-variants as long
 
@@ -16,9 +16,9 @@ outcomeOf outcome.Done = ans.done
 outcomeOf (outcome.Refused k) = ans.refused (numberOf k)
 
 -- the answer of a register read
-abbrev pub shownOf : Shown → Answer
-shownOf (shown.Value v) = ans.value v
-shownOf (shown.Refused k) = ans.refused (numberOf k)
+abbrev pub readOutcomeOf : ReadOutcome → Answer
+readOutcomeOf (read.Value v) = ans.value v
+readOutcomeOf (read.Refused k) = ans.refused (numberOf k)
 
 -- the answer of the call beside retired readbacks
 abbrev pub lengthOf : PartLength → Answer

@@ -8,7 +8,7 @@ use lib.Dec.{eqb, leb, ltb}
 use Rattle.refusal.specs.Refusals.{numberOf}
 use Rattle.refusal.specs.declared.Refusal.the-variants as refusal
 use Rattle.register_map.specs.AccessRule.{channelAccess}
-use Rattle.register_map.specs.Verdicts.{readRefusal, writeRefusal}
+use Rattle.register_map.specs.AccessRefusals.{readRefusal, writeRefusal}
 use Rattle.status.specs.Bits.{bitAt, wordOfBits}
 use Rattle.status.specs.declared.Status.{Status}
 use Rattle.status.specs.declared.Latches.{Latches}

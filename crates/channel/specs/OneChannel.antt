@@ -10,7 +10,7 @@ use Rattle.refusal.specs.declared.Refusal.the-variants as refusal
 use Rattle.frame.specs.Frames.{Reading, read}
 use Rattle.frame.specs.Frames as frame
 use Rattle.register_map.specs.AccessRule.{channelAccess, mainAccess}
-use Rattle.register_map.specs.Verdicts.{readRefusal, writeRefusal}
+use Rattle.register_map.specs.AccessRefusals.{readRefusal, writeRefusal}
 use Rattle.registers.specs.Map.{secondActive, readbackPlace}
 use Rattle.readback.specs.Storing.{retiredPart}
 use Rattle.channel_core.specs.declared.Channel.{Channel}

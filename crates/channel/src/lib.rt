@@ -1,11 +1,11 @@
 // The calls that name a channel, over the channel by value and its own part of the lent memory. They know no board and no other channel.
 use channel_core::Channel;
 use refusal::Refusal;
-use register_map::Verdict;
+use refusal::Verdict;
 use registers::Registers;
 ghost use mathlib.Core.Path.{_≡_};
-ghost use Rattle.register_map.specs.Verdicts.{verdictNumber};
-ghost use Rattle.channel.specs.Answers.{outcomeOf, shownOf, lengthOf};
+ghost use Rattle.refusal.specs.Refusals.{verdictNumber};
+ghost use Rattle.channel.specs.Answers.{outcomeOf, readOutcomeOf, lengthOf};
 ghost use Rattle.channel.specs.Calls.{registerRefusal, registerEffect, registerWords, writtenOf, writtenAnswer, writtenWords, readEffect, readValue, readOf, readAnswer, outside, activeBuffer, setpointRefusal, setpointAnswer, setpointWords, setArmed, retiredWords, retiredLength, mainBit, mainTaken};
 
 // The answer of a call that has nothing to tell but that it was done.
@@ -15,7 +15,7 @@ pub enum Outcome {
 }
 
 // The answer of a register read.
-pub enum Shown {
+pub enum ReadOutcome {
     Value(u16),
     Refused(Refusal),
 }
@@ -33,7 +33,7 @@ pub struct Written {
 
 pub struct Read {
     pub channel: Channel,
-    pub shown: Shown,
+    pub outcome: ReadOutcome,
 }
 
 // A channel after its bit in a Main status is read, and the bit.
@@ -46,8 +46,8 @@ pub struct MainRead {
 fn write_check(offset: u16, value: u16) -> Verdict
     ensures { λ r. ⌜ verdictNumber r ≡ registerRefusal offset value ⌝ }
 {
-    let v = register_map::write_verdict(register_map::channel_access(offset));
-    match v {
+    let verdict = register_map::write_verdict(register_map::channel_access(offset));
+    match verdict {
         Verdict::Allowed => {
             if offset == 0x0a {
                 if 3 < value {
@@ -56,7 +56,7 @@ fn write_check(offset: u16, value: u16) -> Verdict
             }
             Verdict::Allowed
         }
-        Verdict::Refused(k) => Verdict::Refused(k),
+        Verdict::Refused(refusal) => Verdict::Refused(refusal),
     }
 }
 
@@ -65,10 +65,10 @@ fn write_effect(c: Channel, words: &mut [u32], m: u32, offset: u16, value: u16) 
     ensures { λ r. ⌜ (r ≡ registerEffect c offset value) × (now (words .exit) ≡ registerWords c (now (words .entry)) m offset value) ⌝ }
 {
     if offset == 0x00 {
-        let s = c.status;
-        let mut x = c;
-        x.status = s.enabled(value);
-        return x;
+        let status = c.status;
+        let mut next = c;
+        next.status = status.enabled(value);
+        return next;
     }
     if offset == 0x06 {
         if status::is_set(value, 0) {
@@ -79,24 +79,24 @@ fn write_effect(c: Channel, words: &mut [u32], m: u32, offset: u16, value: u16) 
     if offset == 0x08 {
         return c.command(words, m, value);
     }
-    let r = c.registers;
-    let mut x = c;
-    x.registers = r.stored(offset, value);
-    x
+    let registers = c.registers;
+    let mut next = c;
+    next.registers = registers.stored(offset, value);
+    next
 }
 
 pub fn write_register(c: Channel, words: &mut [u32], m: u32, offset: u16, value: u16) -> Written
     ensures { λ r. ⌜ (r .channel ≡ writtenOf c offset value) × (outcomeOf (r .outcome) ≡ writtenAnswer offset value) × (now (words .exit) ≡ writtenWords c (now (words .entry)) m offset value) ⌝ }
 {
-    let v = write_check(offset, value);
-    match v {
+    let verdict = write_check(offset, value);
+    match verdict {
         Verdict::Allowed => Written {
             channel: write_effect(c, words, m, offset, value),
             outcome: Outcome::Done,
         },
-        Verdict::Refused(k) => Written {
+        Verdict::Refused(refusal) => Written {
             channel: c,
-            outcome: Outcome::Refused(k),
+            outcome: Outcome::Refused(refusal),
         },
     }
 }
@@ -105,58 +105,58 @@ pub fn write_register(c: Channel, words: &mut [u32], m: u32, offset: u16, value:
 fn read_value(c: Channel, offset: u16) -> u16
     ensures { λ r. ⌜ r ≡ readValue c offset ⌝ }
 {
-    let s = c.status;
+    let status = c.status;
     if offset == 0x00 {
-        return s.enable;
+        return status.enable;
     }
     if offset == 0x02 {
-        let l = s.interrupt;
-        let bits = l.bits;
+        let latches = status.interrupt;
+        let bits = latches.bits;
         return status::word_of_bits(bits);
     }
     if offset == 0x04 {
-        let l = s.polling;
-        let bits = l.bits;
+        let latches = status.polling;
+        let bits = latches.bits;
         return status::word_of_bits(bits);
     }
-    let r = c.registers;
-    r.loaded(offset)
+    let registers = c.registers;
+    registers.loaded(offset)
 }
 
 // A status read clears that copy.
 fn read_effect(c: Channel, offset: u16) -> Channel
     ensures { λ r. ⌜ r ≡ readEffect c offset ⌝ }
 {
-    let mut s = c.status;
+    let mut status = c.status;
     if offset == 0x02 {
-        let l = s.interrupt;
-        s.interrupt = l.cleared();
-        let mut x = c;
-        x.status = s;
-        return x;
+        let latches = status.interrupt;
+        status.interrupt = latches.cleared();
+        let mut next = c;
+        next.status = status;
+        return next;
     }
     if offset == 0x04 {
-        let l = s.polling;
-        s.polling = l.cleared();
-        let mut x = c;
-        x.status = s;
-        return x;
+        let latches = status.polling;
+        status.polling = latches.cleared();
+        let mut next = c;
+        next.status = status;
+        return next;
     }
     c
 }
 
 pub fn read_register(c: Channel, offset: u16) -> Read
-    ensures { λ r. ⌜ (r .channel ≡ readOf c offset) × (shownOf (r .shown) ≡ readAnswer c offset) ⌝ }
+    ensures { λ r. ⌜ (r .channel ≡ readOf c offset) × (readOutcomeOf (r .outcome) ≡ readAnswer c offset) ⌝ }
 {
-    let v = register_map::read_verdict(register_map::channel_access(offset));
-    match v {
+    let verdict = register_map::read_verdict(register_map::channel_access(offset));
+    match verdict {
         Verdict::Allowed => Read {
             channel: read_effect(c, offset),
-            shown: Shown::Value(read_value(c, offset)),
+            outcome: ReadOutcome::Value(read_value(c, offset)),
         },
-        Verdict::Refused(k) => Read {
+        Verdict::Refused(refusal) => Read {
             channel: c,
-            shown: Shown::Refused(k),
+            outcome: ReadOutcome::Refused(refusal),
         },
     }
 }
@@ -172,10 +172,10 @@ pub fn is_outside(low: u32, high: u32, x: u32) -> bool
 }
 
 // The active one of a user's setpoint buffers, 1 or 2.
-fn active_buffer(r: Registers, user: u8) -> u32
-    ensures { λ b. ⌜ b ≡ activeBuffer r user ⌝ }
+fn active_buffer(registers: Registers, user: u8) -> u32
+    ensures { λ b. ⌜ b ≡ activeBuffer registers user ⌝ }
 {
-    if r.second_active(user) {
+    if registers.second_active(user) {
         return 2;
     }
     1
@@ -194,10 +194,10 @@ fn setpoint_check(c: Channel, n: u32, user: u32, buffer: u32, index: u32) -> Ver
     if n <= index {
         return Verdict::Refused(Refusal::OutOfRange);
     }
-    let q = c.sequencer;
-    let r = c.registers;
-    if q.armed {
-        if buffer == active_buffer(r, user as u8) {
+    let sequencer = c.sequencer;
+    let registers = c.registers;
+    if sequencer.armed {
+        if buffer == active_buffer(registers, user as u8) {
             return Verdict::Refused(Refusal::ActiveBuffer);
         }
         return Verdict::Allowed;
@@ -217,14 +217,14 @@ pub fn write_setpoint(
 ) -> Outcome
     ensures { λ r. ⌜ (outcomeOf r ≡ setpointAnswer c n user buffer index) × (now (words .exit) ≡ setpointWords c (now (words .entry)) n user buffer index word) ⌝ }
 {
-    let v = setpoint_check(c, n, user, buffer, index);
-    match v {
+    let verdict = setpoint_check(c, n, user, buffer, index);
+    match verdict {
         Verdict::Allowed => {
             let at = channel_core::setpoint_place((user - 1) as u8, buffer == 2, n, index);
             readback::store(words, at, word);
             Outcome::Done
         }
-        Verdict::Refused(k) => Outcome::Refused(k),
+        Verdict::Refused(refusal) => Outcome::Refused(refusal),
     }
 }
 
@@ -232,14 +232,14 @@ pub fn write_setpoint(
 pub fn set_armed(c: Channel, on: bool) -> Channel
     ensures { λ r. ⌜ r ≡ setArmed c on ⌝ }
 {
-    let q = c.sequencer;
-    let mut x = c;
+    let sequencer = c.sequencer;
+    let mut next = c;
     if on {
-        x.sequencer = q.armed();
-        return x;
+        next.sequencer = sequencer.armed();
+        return next;
     }
-    x.sequencer = q.disarmed();
-    x
+    next.sequencer = sequencer.disarmed();
+    next
 }
 
 // The stored part of the inactive readback buffer; empty where the two buffers are not of the depth.
@@ -252,9 +252,10 @@ pub fn retired<'a>(c: Channel, m: u32, one: &'a [u32], two: &'a [u32]) -> &'a [u
     if two.len() != m as usize {
         return &two[..0];
     }
-    let r = c.registers;
-    let b = c.readbacks;
-    readback::retired_part(r.readback_second_active(), b.retired, one, two)
+    let registers = c.registers;
+    let readbacks = c.readbacks;
+    let second = registers.readback_second_active();
+    readback::retired_part(second, readbacks.retired, one, two)
 }
 
 // The length of what `retired` gives, or the refusal.
@@ -275,22 +276,22 @@ pub fn retired_length<'a>(c: Channel, m: u32, one: &'a [u32], two: &'a [u32]) ->
 pub fn take_main(c: Channel, polling: bool) -> MainRead
     ensures { λ r. ⌜ (r .channel ≡ mainTaken c polling) × (r .bit ≡ mainBit c polling) ⌝ }
 {
-    let mut s = c.status;
-    let mut x = c;
+    let mut status = c.status;
+    let mut next = c;
     if polling {
-        let l = s.polling;
-        s.polling = l.taken();
-        x.status = s;
+        let latches = status.polling;
+        status.polling = latches.taken();
+        next.status = status;
         return MainRead {
-            channel: x,
-            bit: l.main,
+            channel: next,
+            bit: latches.main,
         };
     }
-    let l = s.interrupt;
-    s.interrupt = l.taken();
-    x.status = s;
+    let latches = status.interrupt;
+    status.interrupt = latches.taken();
+    next.status = status;
     MainRead {
-        channel: x,
-        bit: l.main,
+        channel: next,
+        bit: latches.main,
     }
 }

@@ -53,11 +53,11 @@ pub struct Received {
 pub fn setpoint_place(user: u8, second: bool, n: u32, index: u32) -> usize
     ensures { λ r. ⌜ r ≡ setpointPlace user (bitOf second) n index ⌝ }
 {
-    let u = user as usize * 2;
+    let first = user as usize * 2;
     if second {
-        return (u + 1) * n as usize + index as usize;
+        return (first + 1) * n as usize + index as usize;
     }
-    u * n as usize + index as usize
+    first * n as usize + index as usize
 }
 
 // A word of a slice, and 0 past its end.
@@ -68,26 +68,26 @@ pub fn word_at(words: &[u32], at: usize) -> u32
 }
 
 // The status as the channel is idled: an early end, if the function is not finished.
-fn early_ended(s: Status, q: Sequencer) -> Status
-    ensures { λ r. ⌜ r ≡ earlyEnded s q ⌝ }
+fn early_ended(status: Status, sequencer: Sequencer) -> Status
+    ensures { λ r. ⌜ r ≡ earlyEnded status sequencer ⌝ }
 {
-    if q.unfinished() {
-        return s.latched(status::EARLY_END);
+    if sequencer.unfinished() {
+        return status.latched(status::EARLY_END);
     }
-    s
+    status
 }
 
 // The status with what a send latches.
-pub fn send_status(s: Status, sent: Transmission) -> Status
-    ensures { λ r. ⌜ r ≡ sendStatus s sent ⌝ }
+pub fn send_status(status: Status, sent: Transmission) -> Status
+    ensures { λ r. ⌜ r ≡ sendStatus status sent ⌝ }
 {
     match sent {
-        Transmission::Nothing => s,
+        Transmission::Nothing => status,
         Transmission::Word { word: _, condition } => {
             if condition == 0 {
-                return s;
+                return status;
             }
-            s.latched(condition)
+            status.latched(condition)
         }
     }
 }
@@ -125,9 +125,9 @@ impl Channel {
     pub fn reset(self) -> Channel
         ensures { λ r. ⌜ r ≡ reset self ⌝ }
     {
-        let s = self.status;
+        let status = self.status;
         Channel {
-            status: s.reset(),
+            status: status.reset(),
             registers: Registers::opened(),
             sequencer: Sequencer::opened(),
             readbacks: Readbacks::opened(),
@@ -138,15 +138,15 @@ impl Channel {
     fn started(self, delay: u32) -> Channel
         ensures { λ r. ⌜ r ≡ started self delay ⌝ }
     {
-        let q = self.sequencer;
+        let sequencer = self.sequencer;
         let mut c = self;
-        if q.armed {
-            let stage = q.stage;
+        if sequencer.armed {
+            let stage = sequencer.stage;
             if sequencer::stages::is_idle(stage) {
-                let s = c.status;
-                c.status = s.latched(status::RUN);
+                let status = c.status;
+                c.status = status.latched(status::RUN);
             }
-            c.sequencer = q.started(delay);
+            c.sequencer = sequencer.started(delay);
         }
         c
     }
@@ -155,26 +155,26 @@ impl Channel {
     pub fn user_changed(self) -> Channel
         ensures { λ r. ⌜ r ≡ userChanged self ⌝ }
     {
-        let s = self.status;
-        let q = self.sequencer;
+        let status = self.status;
+        let sequencer = self.sequencer;
         let mut c = self;
-        c.status = early_ended(s, q);
-        c.sequencer = q.idled();
+        c.status = early_ended(status, sequencer);
+        c.sequencer = sequencer.idled();
         c
     }
 
     fn group_ended(self) -> Channel
         ensures { λ r. ⌜ r ≡ groupEnded self ⌝ }
     {
-        let s = self.status;
-        let r = self.registers;
-        let q = self.sequencer;
-        let b = self.readbacks;
+        let status = self.status;
+        let registers = self.registers;
+        let sequencer = self.sequencer;
+        let readbacks = self.readbacks;
         Channel {
-            status: early_ended(s, q).latched(status::GROUP_END),
-            registers: r.group_ended(q.count),
-            sequencer: q.group_ended(),
-            readbacks: b.group_ended(),
+            status: early_ended(status, sequencer).latched(status::GROUP_END),
+            registers: registers.group_ended(sequencer.count),
+            sequencer: sequencer.group_ended(),
+            readbacks: readbacks.group_ended(),
         }
     }
 
@@ -183,9 +183,9 @@ impl Channel {
         ensures { λ r. ⌜ (r ≡ endedIf on self) × (now (words .exit) ≡ endedWords on self (now (words .entry)) m) ⌝ }
     {
         if on {
-            let r = self.registers;
-            let b = self.readbacks;
-            b.mark_end(words, r.readback_second_active(), m);
+            let registers = self.registers;
+            let readbacks = self.readbacks;
+            readbacks.mark_end(words, registers.readback_second_active(), m);
             return self.group_ended();
         }
         self
@@ -204,54 +204,56 @@ impl Channel {
         ensures { λ r. ⌜ r ≡ resumedIf on self pause delay ⌝ }
     {
         if on {
-            let q = self.sequencer;
+            let sequencer = self.sequencer;
             let mut c = self;
-            c.sequencer = q.resumed(pause, delay);
+            c.sequencer = sequencer.resumed(pause, delay);
             return c;
         }
         self
     }
 
     // Each Resume event that has this code.
-    fn resume_on(self, r: Registers, user: u8, code: u8) -> Channel
-        ensures { λ c. ⌜ c ≡ resumedOn r self user code ⌝ }
+    fn resume_on(self, registers: Registers, user: u8, code: u8) -> Channel
+        ensures { λ c. ⌜ c ≡ resumedOn registers self user code ⌝ }
     {
-        let a = self.resume_if(r.triggers(1, code), 1, r.delay(1, user));
-        let b = a.resume_if(r.triggers(2, code), 2, r.delay(2, user));
-        let c = b.resume_if(r.triggers(3, code), 3, r.delay(3, user));
-        c.resume_if(r.triggers(4, code), 4, r.delay(4, user))
+        let first = self.resume_if(registers.triggers(1, code), 1, registers.delay(1, user));
+        let second = first.resume_if(registers.triggers(2, code), 2, registers.delay(2, user));
+        let third = second.resume_if(registers.triggers(3, code), 3, registers.delay(3, user));
+        third.resume_if(registers.triggers(4, code), 4, registers.delay(4, user))
     }
 
     // An event: Group End, Start, Resume, as its registers say.
     pub fn event(self, words: &mut [u32], m: u32, user: u8, code: u8) -> Channel
         ensures { λ r. ⌜ (r ≡ eventOf self user code) × (now (words .exit) ≡ eventWords self (now (words .entry)) m code) ⌝ }
     {
-        let r = self.registers;
-        let a = self.end_if(r.triggers(registers::GROUP_END_EVENT, code), words, m);
-        let b = a.start_if(r.triggers(registers::START_EVENT, code), r.delay(0, user));
-        b.resume_on(r, user, code)
+        let registers = self.registers;
+        let ends = registers.triggers(registers::GROUP_END_EVENT, code);
+        let ended = self.end_if(ends, words, m);
+        let starts = registers.triggers(registers::START_EVENT, code);
+        let started = ended.start_if(starts, registers.delay(0, user));
+        started.resume_on(registers, user, code)
     }
 
     // A write to Commands: D2 Group End, D0 Start, D1 Resume of the VME pause.
     pub fn command(self, words: &mut [u32], m: u32, value: u16) -> Channel
         ensures { λ r. ⌜ (r ≡ commanded self value) × (now (words .exit) ≡ commandWords self (now (words .entry)) m value) ⌝ }
     {
-        let a = self.end_if(status::is_set(value, 2), words, m);
-        let b = a.start_if(status::is_set(value, 0), 0);
-        b.resume_if(status::is_set(value, 1), 0, 0)
+        let ended = self.end_if(status::is_set(value, 2), words, m);
+        let started = ended.start_if(status::is_set(value, 0), 0);
+        started.resume_if(status::is_set(value, 1), 0, 0)
     }
 
     // The word at the index due, of the current user's active buffer.
     fn due(self, setpoints: &[u32], n: u32, user: u8) -> u32
         ensures { λ r. ⌜ r ≡ dueOf self (now (setpoints .entry)) n user ⌝ }
     {
-        let r = self.registers;
-        let q = self.sequencer;
+        let registers = self.registers;
+        let sequencer = self.sequencer;
         let at = setpoint_place(
             registers::zero_based(user),
-            r.second_active(user),
+            registers.second_active(user),
             n,
-            q.index,
+            sequencer.index,
         );
         word_at(setpoints, at)
     }
@@ -260,18 +262,22 @@ impl Channel {
     pub fn tick(self, setpoints: &[u32], n: u32, user: u8) -> Ticked
         ensures { λ r. ⌜ (r .channel ≡ tickOf self (now (setpoints .entry)) n user) × (lineOf (r .line) ≡ tickAnswer self (now (setpoints .entry)) n user) ⌝ }
     {
-        let r = self.registers;
-        let q = self.sequencer;
-        let s = self.status;
-        let t = q.tick(self.due(setpoints, n, user), n, registers::period(r.clock));
-        let next = t.sequencer;
-        let sent = t.transmission;
+        let registers = self.registers;
+        let sequencer = self.sequencer;
+        let status = self.status;
+        let ticked = sequencer.tick(
+            self.due(setpoints, n, user),
+            n,
+            registers::period(registers.clock),
+        );
+        let next = ticked.sequencer;
+        let sent = ticked.transmission;
         let mut c = self;
-        c.status = send_status(s, sent);
+        c.status = send_status(status, sent);
         c.sequencer = next;
         Ticked {
             channel: c,
-            line: send_line(r.id, sent),
+            line: send_line(registers.id, sent),
         }
     }
 }

@@ -13,13 +13,13 @@ ghost use Rattle.channel_core.specs.Answers.{receiptOf};
 ghost use Rattle.channel_core.specs.Behaviour.{dispositionNow, crcStatus, replyCounted, receivedChannel, receiptAnswer, receivedWords, replyAnswer, replyOf, replyWords};
 
 // The status after a reply that was kept or lost.
-fn crc_checked(s: Status, right: bool) -> Status
-    ensures { λ r. ⌜ r ≡ crcStatus s right ⌝ }
+fn crc_checked(status: Status, right: bool) -> Status
+    ensures { λ r. ⌜ r ≡ crcStatus status right ⌝ }
 {
     if right {
-        return s;
+        return status;
     }
-    s.latched(status::CRC_ERROR)
+    status.latched(status::CRC_ERROR)
 }
 
 impl Channel {
@@ -27,22 +27,22 @@ impl Channel {
     fn disposition(self, m: u32) -> Disposition
         ensures { λ r. ⌜ r ≡ dispositionNow self m ⌝ }
     {
-        let q = self.sequencer;
-        let b = self.readbacks;
-        let stage = q.stage;
-        let last = q.last;
-        readback::dispose(sequencer::stages::is_idle(stage), last, b.stored, m)
+        let sequencer = self.sequencer;
+        let readbacks = self.readbacks;
+        let stage = sequencer.stage;
+        let last = sequencer.last;
+        readback::dispose(sequencer::stages::is_idle(stage), last, readbacks.stored, m)
     }
 
     // A reply that was due, kept or lost, is one of the six; its CRC is checked.
     fn counted(self, right: bool) -> Channel
         ensures { λ r. ⌜ r ≡ replyCounted self right ⌝ }
     {
-        let s = self.status;
-        let q = self.sequencer;
+        let status = self.status;
+        let sequencer = self.sequencer;
         let mut c = self;
-        c.status = crc_checked(s, right);
-        c.sequencer = q.answered();
+        c.status = crc_checked(status, right);
+        c.sequencer = sequencer.answered();
         c
     }
 
@@ -69,13 +69,13 @@ impl Channel {
                 receipt: Receipt::Lost,
             },
             Disposition::Kept => {
-                let r = self.registers;
-                let q = self.sequencer;
-                let b = self.readbacks;
-                let last = q.last;
+                let registers = self.registers;
+                let sequencer = self.sequencer;
+                let readbacks = self.readbacks;
+                let last = sequencer.last;
                 let word = readback::stored_word(last, user, !right, id, data);
                 let mut c = self.counted(right);
-                c.readbacks = b.keep(words, r.readback_second_active(), m, word);
+                c.readbacks = readbacks.keep(words, registers.readback_second_active(), m, word);
                 Received {
                     channel: c,
                     receipt: Receipt::Kept,

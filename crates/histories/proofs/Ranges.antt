@@ -8,7 +8,7 @@ use lib.ListN.{length}
 use lib.Dec.{eqb, ltb}
 use borrow.Author.Tests.{eqb-true, eq-eqb, ltb-false}
 use Rattle.register_map.specs.AccessRule.{channelAccess}
-use Rattle.register_map.specs.Verdicts.{writeRefusal}
+use Rattle.register_map.specs.AccessRefusals.{writeRefusal}
 use Rattle.status.specs.Bits.{bitAt}
 use Rattle.status.proofs.Laws.{enable-drops}
 use Rattle.channel_core.specs.declared.Channel.{Channel}

@@ -9,7 +9,7 @@ use lib.Dec.{eqb}
 use borrow.Author.Tests.{eqb-true}
 use Rattle.register_map.specs.Addresses.{named, main, channel}
 use Rattle.register_map.specs.AccessRule.{mainAccess}
-use Rattle.register_map.specs.Verdicts.{readRefusal, writeRefusal}
+use Rattle.register_map.specs.AccessRefusals.{readRefusal, writeRefusal}
 use Rattle.channel_core.specs.Answers.{Answer, isRefusal}
 use Rattle.channel_core.specs.Answers as ans
 use Rattle.channel.specs.Calls.{unless}

@@ -10,7 +10,7 @@ use Rattle.readback.specs.declared.Disposition.{Disposition}
 use Rattle.readback.specs.declared.Disposition.the-variants as disposition
 use Rattle.register_map.specs.Addresses.{Named, named, main, channel, nothing}
 use Rattle.register_map.specs.AccessRule.{channelAccess, mainAccess}
-use Rattle.register_map.specs.Verdicts.{readRefusal, writeRefusal}
+use Rattle.register_map.specs.AccessRefusals.{readRefusal, writeRefusal}
 use Rattle.channel_core.specs.declared.Channel.{Channel}
 use Rattle.channel_core.specs.Answers.{isRefusal}
 use Rattle.channel_core.specs.Answers as ans

@@ -8,7 +8,7 @@ use lib.ListN.{length}
 use lib.Dec.{eqb}
 use Rattle.register_map.specs.Addresses.{named, main, channel}
 use Rattle.register_map.specs.AccessRule.{mainAccess}
-use Rattle.register_map.specs.Verdicts.{readRefusal, writeRefusal}
+use Rattle.register_map.specs.AccessRefusals.{readRefusal, writeRefusal}
 use Rattle.channel_core.specs.declared.Channel.{Channel}
 use Rattle.channel_core.specs.State.{opened}
 use Rattle.channel_core.specs.Behaviour as core

@@ -5,7 +5,7 @@ use call_script::lent;
 use call_script::pool;
 use channel::Outcome;
 use channel::PartLength;
-use channel::Shown;
+use channel::ReadOutcome;
 use channel_core::Receipt;
 use output::Block;
 use refusal::Refusal;
@@ -30,10 +30,10 @@ fn value(block: &mut Block, contents: u16) {
     output::hex_value(block, contents);
 }
 
-fn shown(block: &mut Block, answer: Shown) {
+fn read_outcome(block: &mut Block, answer: ReadOutcome) {
     match answer {
-        Shown::Value(contents) => value(block, contents),
-        Shown::Refused(reason) => refused(block, reason),
+        ReadOutcome::Value(contents) => value(block, contents),
+        ReadOutcome::Refused(reason) => refused(block, reason),
     }
 }
 
@@ -74,8 +74,8 @@ pub fn write_register(
 pub fn read_register(block: &mut Block, b: Board, address: u32) -> Board {
     let read = board_registers::read_register(b, address);
     let board = read.board;
-    let answer = read.shown;
-    shown(block, answer);
+    let answer = read.outcome;
+    read_outcome(block, answer);
     board
 }
 

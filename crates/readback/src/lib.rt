@@ -76,9 +76,9 @@ pub fn dispose(idle: bool, last: LastSend, stored: u32, m: u32) -> Disposition
 fn front<'a>(words: &'a [u32], count: u32) -> &'a [u32]
     ensures { λ r. ⌜ now r ≡ take count (now (words .entry)) ⌝ }
 {
-    let k = count as usize;
-    if k < words.len() {
-        return &words[..k];
+    let end = count as usize;
+    if end < words.len() {
+        return &words[..end];
     }
     words
 }
@@ -107,13 +107,13 @@ impl Readbacks {
     pub fn keep(self, words: &mut [u32], second: bool, m: u32, word: u32) -> Readbacks
         ensures { λ r. ⌜ (r ≡ keptIn self m) × (now (words .exit) ≡ keptWords self (now (words .entry)) second m word) ⌝ }
     {
-        let mut r = self;
-        let stored = r.stored;
+        let mut next = self;
+        let stored = next.stored;
         if stored < m {
             store(words, place(second, m, stored), word);
-            r.stored = stored + 1;
+            next.stored = stored + 1;
         }
-        r
+        next
     }
 
     // The end word after the stored readbacks, if there is space.

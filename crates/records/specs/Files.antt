@@ -2,20 +2,14 @@
 use Prim.Native.Nat.{ℕ, _+_, _-_, _*_}
 use mathlib.Core.Bool.{cond}
 use mathlib.Core.List.{List, []}
-use lib.ListN.{length, getD, take, drop}
+use lib.ListN.{length, take, drop}
 use lib.Dec.{eqb, ltb}
 use Rattle.refusal.specs.Refusals.{numberOf}
 use Rattle.refusal.specs.declared.Refusal.the-variants as refusal
 use Rattle.channel_core.specs.Answers.{Answer}
 use Rattle.channel_core.specs.Answers as ans
 use Rattle.channel.specs.Calls.{unless}
-
--- "little-endian": the 16-bit and the 32-bit number whose lowest byte stands at `at`
-abbrev pub number16 : List ℕ → ℕ → ℕ
-number16 s at = getD s at 0 + 256 * getD s (at + 1) 0
-
-abbrev pub number32 : List ℕ → ℕ → ℕ
-number32 s at = number16 s at + 65536 * number16 s (at + 2)
+use Rattle.little_endian.specs.Numbers.{number32}
 
 -- "a trailer of two 32-bit little-endian numbers: distance back from the file's end to the first record, and record count"
 unfoldable pub distance : List ℕ → ℕ

@@ -4,7 +4,7 @@ use mathlib.Core.Bool.{cond, _||_}
 use mathlib.Core.List.{List}
 use lib.ListN.{getD}
 use lib.Dec.{eqb, ltb}
-use Rattle.records.specs.Files.{number16, number32}
+use Rattle.little_endian.specs.Numbers.{number16, number32}
 use Rattle.records.specs.declared.Request.{Request}
 use Rattle.records.specs.declared.Request.the-variants as request
 

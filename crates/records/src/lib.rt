@@ -1,9 +1,7 @@
 // The run file's reader, and what each of its records asks.
 use refusal::Refusal;
 ghost use mathlib.Core.Path.{_≡_};
-ghost use Prim.Native.Nat.{_+_, _<_};
-ghost use lib.ListN.{getD};
-ghost use Rattle.records.specs.Files.{number16, number32, distance, count, recordsPart, recordsLength};
+ghost use Rattle.records.specs.Files.{recordsPart, recordsLength};
 ghost use Rattle.records.specs.Answers.{bytesOf};
 ghost use Rattle.records.specs.Requests.{requestOf, writeAsked, setpointAsked, eventAsked, ticksAsked, armAsked, askedBy, askedOf};
 
@@ -51,35 +49,6 @@ pub enum Request {
     Bad,
 }
 
-// A byte, 0 past the end.
-fn byte(s: &[u8], at: usize) -> u8
-    ensures { λ r. ⌜ r ≡ getD (now (s .entry)) at 0 ⌝ }
-{
-    if at < s.len() {
-        return s[at];
-    }
-    0
-}
-
-// Little-endian numbers.
-fn half(s: &[u8], at: usize) -> u16
-    requires { ⌜ at < 65536 ⌝ }
-    ensures { λ r. ⌜ r ≡ number16 (now (s .entry)) at ⌝ }
-{
-    let low = byte(s, at);
-    let high = byte(s, at + 1);
-    low as u16 + 256 * high as u16
-}
-
-fn word(s: &[u8], at: usize) -> u32
-    requires { ⌜ at < 65534 ⌝ }
-    ensures { λ r. ⌜ r ≡ number32 (now (s .entry)) at ⌝ }
-{
-    let low = half(s, at);
-    let high = half(s, at + 2);
-    low as u32 + 65536 * high as u32
-}
-
 // The length of what `records` gives, or the refusal.
 pub fn records_length(file: &[u8]) -> RecordsLength
     ensures { λ r. ⌜ bytesOf r ≡ recordsLength (now (file .entry)) ⌝ }
@@ -91,8 +60,8 @@ pub fn records_length(file: &[u8]) -> RecordsLength
     if size < 8 {
         return RecordsLength::Refused(Refusal::BadTrailer);
     }
-    let distance = word(file, size - 8) as u64;
-    let count = word(file, size - 4) as u64;
+    let distance = little_endian::u32_at(file, (size - 8) as u32) as u64;
+    let count = little_endian::u32_at(file, (size - 4) as u32) as u64;
     if distance != 8 * count + 8 {
         return RecordsLength::Refused(Refusal::BadTrailer);
     }
@@ -108,9 +77,9 @@ pub fn records<'a>(file: &'a [u8]) -> &'a [u8]
 {
     let answer = records_length(file);
     match answer {
-        RecordsLength::Bytes(k) => {
+        RecordsLength::Bytes(length) => {
             let end = file.len() - 8;
-            let start = end - k;
+            let start = end - length;
             &file[start..end]
         }
         RecordsLength::Refused(_) => &file[..0],
@@ -205,9 +174,9 @@ fn decode_fields(kind: u8, number: u8, a: u16, b: u32) -> Request
 pub fn decode(bytes: &[u8]) -> Request
     ensures { λ r. ⌜ requestOf r ≡ askedOf (now (bytes .entry)) ⌝ }
 {
-    let kind = byte(bytes, 0);
-    let number = byte(bytes, 1);
-    let a = half(bytes, 2);
-    let b = word(bytes, 4);
+    let kind = little_endian::byte_at(bytes, 0);
+    let number = little_endian::byte_at(bytes, 1);
+    let a = little_endian::u16_at(bytes, 2);
+    let b = little_endian::u32_at(bytes, 4);
     decode_fields(kind, number, a, b)
 }

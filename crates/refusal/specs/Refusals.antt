@@ -2,6 +2,8 @@
 use Prim.Native.Nat.{ℕ}
 use Rattle.refusal.specs.declared.Refusal.{Refusal}
 use Rattle.refusal.specs.declared.Refusal.the-variants as refusal
+use Rattle.refusal.specs.declared.Verdict.{Verdict}
+use Rattle.refusal.specs.declared.Verdict.the-variants as verdict
 
 abbrev pub numberOf : Refusal → ℕ
 numberOf refusal.SizeMismatch = 1
@@ -13,3 +15,8 @@ numberOf refusal.ActiveBuffer = 6
 numberOf refusal.FramingError = 7
 numberOf refusal.BadTrailer = 8
 numberOf refusal.BadRecord = 9
+
+-- the number that each case of a verdict stands for; 0 is no refusal
+abbrev pub verdictNumber : Verdict → ℕ
+verdictNumber verdict.Allowed = 0
+verdictNumber (verdict.Refused r) = numberOf r

@@ -1,4 +1,4 @@
-// The refusals of document 01's list, and the number of each.
+// The refusals of document 01's list, the number of each, and the verdict on a call.
 ghost use mathlib.Core.Path.{_≡_};
 ghost use Rattle.refusal.specs.Refusals.{numberOf};
 
@@ -22,6 +22,12 @@ pub enum Refusal {
     BadTrailer,
     // bad record
     BadRecord,
+}
+
+// Whether a call is refused, and by which refusal.
+pub enum Verdict {
+    Allowed,
+    Refused(Refusal),
 }
 
 pub fn number(r: Refusal) -> u8

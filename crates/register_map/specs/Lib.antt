@@ -1,3 +1,3 @@
 pub mod Addresses
 pub mod AccessRule
-pub mod Verdicts
+pub mod AccessRefusals

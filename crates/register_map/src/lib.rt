@@ -3,8 +3,10 @@ ghost use mathlib.Core.Path.{_≡_};
 ghost use Prim.Native.Nat.{_<_};
 ghost use Rattle.register_map.specs.Addresses.{named, namedOf};
 ghost use Rattle.register_map.specs.AccessRule.{channelAccess, entryAccess, mainAccess};
-ghost use Rattle.register_map.specs.Verdicts.{readRefusal, verdictNumber, writeRefusal};
+ghost use Rattle.register_map.specs.AccessRefusals.{readRefusal, writeRefusal};
+ghost use Rattle.refusal.specs.Refusals.{verdictNumber};
 use refusal::Refusal;
+use refusal::Verdict;
 
 // What an address names: Main or a channel (1 to 4), with the offset from its start, or neither (2800h and above).
 pub enum Region {
@@ -19,12 +21,6 @@ pub enum Access {
     ReadOnly,
     WriteOnly,
     ReadWrite,
-}
-
-// Whether a call is refused. A read or a write by its access: allowed, or refused 3 or 4.
-pub enum Verdict {
-    Allowed,
-    Refused(Refusal),
 }
 
 // "A register call names the channel in whose 0800h its address falls; below 0800h is Main; 2800h and above is refused 3."
@@ -220,10 +216,10 @@ pub fn main_access(offset: u16) -> Access
 }
 
 // 3 "address not in the map", 4 "read of a write-only one"
-pub fn read_verdict(a: Access) -> Verdict
-    ensures { λ r. ⌜ verdictNumber r ≡ readRefusal a ⌝ }
+pub fn read_verdict(access: Access) -> Verdict
+    ensures { λ r. ⌜ verdictNumber r ≡ readRefusal access ⌝ }
 {
-    match a {
+    match access {
         Access::None => Verdict::Refused(Refusal::UnmappedRegister),
         Access::ReadOnly => Verdict::Allowed,
         Access::WriteOnly => Verdict::Refused(Refusal::AccessViolation),
@@ -232,10 +228,10 @@ pub fn read_verdict(a: Access) -> Verdict
 }
 
 // 3 "address not in the map", 4 "write to a read-only register"
-pub fn write_verdict(a: Access) -> Verdict
-    ensures { λ r. ⌜ verdictNumber r ≡ writeRefusal a ⌝ }
+pub fn write_verdict(access: Access) -> Verdict
+    ensures { λ r. ⌜ verdictNumber r ≡ writeRefusal access ⌝ }
 {
-    match a {
+    match access {
         Access::None => Verdict::Refused(Refusal::UnmappedRegister),
         Access::ReadOnly => Verdict::Refused(Refusal::AccessViolation),
         Access::WriteOnly => Verdict::Allowed,

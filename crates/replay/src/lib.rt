@@ -53,10 +53,10 @@ fn read(state: RunState, address: u32) -> RunState
     let counts = state.counts;
     let read = board_registers::read_register(board, address);
     let next = read.board;
-    let shown = read.shown;
+    let outcome = read.outcome;
     RunState {
         board: next,
-        counts: counts.read(shown),
+        counts: counts.read(outcome),
     }
 }
 
@@ -73,7 +73,15 @@ fn setpoint(
 {
     let board = state.board;
     let counts = state.counts;
-    let outcome = board_channels::write_setpoint(board, setpoints, number, user, buffer, index, word);
+    let outcome = board_channels::write_setpoint(
+        board,
+        setpoints,
+        number,
+        user,
+        buffer,
+        index,
+        word,
+    );
     RunState {
         board: board,
         counts: counts.outcome(outcome),

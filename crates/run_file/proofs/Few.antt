@@ -9,7 +9,7 @@ use lib.Dec.{eqb, ltb}
 use Rattle.channel.proofs.Cases.{either, by-test}
 use Rattle.channel.proofs.Ranges.{inside}
 use Rattle.board_state.specs.declared.Board.{Board}
-use Rattle.records.specs.Files.{number16, number32}
+use Rattle.little_endian.specs.Numbers.{number16, number32}
 use Rattle.records.specs.Requests.{Asked, ticksAsked, askedBy, askedOf}
 use Rattle.records.specs.Requests as asked
 use Rattle.board.specs.Worlds.{World}

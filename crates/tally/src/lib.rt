@@ -1,11 +1,11 @@
 // What a run counts: steps, refusals and the frames of channels 1 to 4, drawn from the answers of the board's calls.
 use channel::Outcome;
-use channel::Shown;
+use channel::ReadOutcome;
 use channel_core::Receipt;
 use refusal::Refusal;
 ghost use mathlib.Core.Path.{_≡_};
 ghost use Rattle.channel_core.specs.Answers.{receiptOf, isRefusal};
-ghost use Rattle.channel.specs.Answers.{outcomeOf, shownOf};
+ghost use Rattle.channel.specs.Answers.{outcomeOf, readOutcomeOf};
 ghost use Rattle.board.specs.Answers.{one};
 ghost use Rattle.tally.specs.Tallies.{nothingYet, tally, moreBy, tallyTicks};
 ghost use Rattle.tally.specs.Tallies.{more as Tallies·more, stepped as Tallies·stepped};
@@ -57,12 +57,12 @@ fn is_refused_outcome(outcome: Outcome) -> bool
     }
 }
 
-fn is_refused_read(shown: Shown) -> bool
-    ensures { λ r. ⌜ r ≡ isRefusal (shownOf shown) ⌝ }
+fn is_refused_read(outcome: ReadOutcome) -> bool
+    ensures { λ r. ⌜ r ≡ isRefusal (readOutcomeOf outcome) ⌝ }
 {
-    match shown {
-        Shown::Value(_) => false,
-        Shown::Refused(_) => true,
+    match outcome {
+        ReadOutcome::Value(_) => false,
+        ReadOutcome::Refused(_) => true,
     }
 }
 
@@ -107,10 +107,10 @@ impl Counts {
         self
     }
 
-    pub fn read(mut self, shown: Shown) -> Self
-        ensures { λ r. ⌜ r ≡ tally self (one (shownOf shown)) ⌝ }
+    pub fn read(mut self, outcome: ReadOutcome) -> Self
+        ensures { λ r. ⌜ r ≡ tally self (one (readOutcomeOf outcome)) ⌝ }
     {
-        self.refused = more(is_refused_read(shown), self.refused);
+        self.refused = more(is_refused_read(outcome), self.refused);
         self
     }
 

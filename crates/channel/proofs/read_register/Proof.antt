@@ -3,7 +3,8 @@ use Rattle.refusal.proofs.Laws.{refuses}
 use Rattle.channel.specs.Calls.{readOf, readAnswer}
 use mathlib.Core.Path.{_≡_, ap, _∙_}
 use Rattle.register_map.specs.AccessRule.{channelAccess}
-use Rattle.register_map.specs.Verdicts.{verdictNumber, readRefusal}
+use Rattle.register_map.specs.AccessRefusals.{readRefusal}
+use Rattle.refusal.specs.Refusals.{verdictNumber}
 use borrow.Author.Needs.{needs}
 use Rattle.channel.proofs.read_register.Statement.{statement}
 use Rattle.channel.proofs.read_register.Tie as tie
@@ -29,8 +30,8 @@ read-effect-requires c κs = search needs
 read-value-requires : tie.Need-read-value-requires
 read-value-requires c κs = search needs
 
-enum-known-v : tie.Need-enum-known-v
-enum-known-v c = search needs
+enum-known-verdict : tie.Need-enum-known-verdict
+enum-known-verdict c = search needs
 
 returns : tie.Need-returns
 unfolding readOf readAnswer
@@ -43,7 +44,7 @@ returns-2 : tie.Need-returns-2
 unfolding readOf readAnswer
 returns-2 c =
     let s = c .before in
-    let refused = s .v .given .1 in
+    let refused = s .verdict .given .1 in
     rw (← verdict (s .before .before)) (simp (refused, refuses), simp (refused, refuses))
 
 pub read-register-spec : {M : Type 1} → statement M
@@ -55,6 +56,6 @@ read-register-spec =
     enum-told
     read-effect-requires
     read-value-requires
-    enum-known-v
+    enum-known-verdict
     returns
     returns-2)

@@ -4,7 +4,8 @@ use Rattle.channel.specs.Calls.{registerRefusal}
 use borrow.Author.Tests.{lt-ltb, le-ltb, eq-eqb, ne-eqb}
 use mathlib.Core.Path.{_≡_, ap, _∙_}
 use Rattle.register_map.specs.AccessRule.{channelAccess}
-use Rattle.register_map.specs.Verdicts.{verdictNumber, writeRefusal}
+use Rattle.register_map.specs.AccessRefusals.{writeRefusal}
+use Rattle.refusal.specs.Refusals.{verdictNumber}
 use borrow.Author.Needs.{needs}
 use Rattle.channel.proofs.write_check.Statement.{statement}
 use Rattle.channel.proofs.write_check.Tie as tie
@@ -31,8 +32,8 @@ returns c =
     rw (← verdict (s .before .before))
     (simp (s .enum-told .given .1, eq-eqb _ _ (c .before .if1 .taken), lt-ltb _ _ (c .if2 .taken)))
 
-enum-known-v : tie.Need-enum-known-v
-enum-known-v c = search needs
+enum-known-verdict : tie.Need-enum-known-verdict
+enum-known-verdict c = search needs
 
 returns-2 : tie.Need-returns-2
 unfolding registerRefusal
@@ -51,7 +52,7 @@ returns-4 : tie.Need-returns-4
 unfolding registerRefusal
 returns-4 c =
     let s = c .before in
-    rw (← verdict (s .before .before)) (simp (s .v .given .1, refuses))
+    rw (← verdict (s .before .before)) (simp (s .verdict .given .1, refuses))
 
 pub write-check-spec : {M : Type 1} → statement M
 write-check-spec =
@@ -61,7 +62,7 @@ write-check-spec =
     write-verdict-requires
     enum-told
     returns
-    enum-known-v
+    enum-known-verdict
     returns-2
     returns-3
     returns-4)

@@ -14,8 +14,8 @@ enum-told c = search needs
 write-effect-requires : tie.Need-write-effect-requires
 write-effect-requires c κs = search needs
 
-enum-known-v : tie.Need-enum-known-v
-enum-known-v c = search needs
+enum-known-verdict : tie.Need-enum-known-verdict
+enum-known-verdict c = search needs
 
 same-length : tie.Need-same-length
 same-length c = search needs
@@ -33,7 +33,7 @@ returns-2 : tie.Need-returns-2
 unfolding writtenOf writtenAnswer writtenWords
 returns-2 c =
     let s = c .before in
-    let refused = s .v .given .1 in
+    let refused = s .verdict .given .1 in
     rw (← s .before .before .write-check .ensures)
     (simp (refused, refuses), simp (refused, refuses), simp (refused, refuses))
 
@@ -44,7 +44,7 @@ write-register-spec =
     write-check-requires
     enum-told
     write-effect-requires
-    enum-known-v
+    enum-known-verdict
     same-length
     returns
     returns-2)

@@ -35,8 +35,8 @@ setpoint-place-requires c κs = search needs
 store-requires : tie.Need-store-requires
 store-requires c κs = search needs
 
-enum-known-v : tie.Need-enum-known-v
-enum-known-v c = search needs
+enum-known-verdict : tie.Need-enum-known-verdict
+enum-known-verdict c = search needs
 
 same-length : tie.Need-same-length
 same-length c = search needs
@@ -56,7 +56,7 @@ returns-2 : tie.Need-returns-2
 unfolding setpointAnswer setpointWords
 returns-2 c =
     let s = c .before in
-    let refused = s .v .given .1 in
+    let refused = s .verdict .given .1 in
     rw (← s .before .before .setpoint-check .ensures) (simp (refused, refuses), simp (refused, refuses))
 
 pub write-setpoint-spec : {M : Type 1} → statement M
@@ -69,7 +69,7 @@ write-setpoint-spec =
     cast-setpoint-place
     setpoint-place-requires
     store-requires
-    enum-known-v
+    enum-known-verdict
     same-length
     returns
     returns-2)

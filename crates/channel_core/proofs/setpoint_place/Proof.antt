@@ -10,8 +10,8 @@ use Rattle.channel_core.proofs.setpoint_place.Tie as tie
 within : (u n : ℕ) → u ≤ 511 → n ≤ 4294967295 → u * n ≤ 2194728287745
 within u n a b = mul-le-mul {n₁ = u} {m₁ = n} {n₂ = 511} {m₂ = 4294967295} a b
 
-mul-u : tie.Need-mul-u
-mul-u c = search needs
+mul-first : tie.Need-mul-first
+mul-first c = search needs
 
 add-result : tie.Need-add-result
 add-result c = search needs
@@ -45,4 +45,4 @@ returns-2 c = simp (c .if1 .left) (omega arith)
 pub setpoint-place-spec : {M : Type 1} → statement M
 setpoint-place-spec =
     tie.close
-    (tie.spec mul-u add-result mul-result add-result-2 returns mul-result-2 add-result-3 returns-2)
+    (tie.spec mul-first add-result mul-result add-result-2 returns mul-result-2 add-result-3 returns-2)

@@ -4,17 +4,17 @@ use borrow.Author.Needs.{needs}
 use Rattle.records.proofs.decode.Statement.{statement}
 use Rattle.records.proofs.decode.Tie as tie
 
-byte-requires : tie.Need-byte-requires
-byte-requires c κs = search needs
+byte-at-requires : tie.Need-byte-at-requires
+byte-at-requires c κs = search needs
 
-byte-requires-2 : tie.Need-byte-requires-2
-byte-requires-2 c κs = search needs
+byte-at-requires-2 : tie.Need-byte-at-requires-2
+byte-at-requires-2 c κs = search needs
 
-half-requires : tie.Need-half-requires
-half-requires c κs = search needs
+u16-at-requires : tie.Need-u16-at-requires
+u16-at-requires c κs = search needs
 
-word-requires : tie.Need-word-requires
-word-requires c κs = search needs
+u32-at-requires : tie.Need-u32-at-requires
+u32-at-requires c κs = search needs
 
 decode-fields-requires : tie.Need-decode-fields-requires
 decode-fields-requires c κs = search needs
@@ -24,19 +24,19 @@ unfolding askedOf
 returns c =
     simp (
       c .decode-fields .ensures,
-      c .before .word .ensures,
-      c .before .before .half .ensures,
-      c .before .before .before .byte2 .ensures,
-      c .before .before .before .before .byte .ensures,
+      c .before .u32-at .ensures,
+      c .before .before .u16-at .ensures,
+      c .before .before .before .byte-at2 .ensures,
+      c .before .before .before .before .byte-at .ensures,
     )
 
 pub decode-spec : {M : Type 1} → statement M
 decode-spec =
     tie.close
     (tie.spec
-    byte-requires
-    byte-requires-2
-    half-requires
-    word-requires
+    byte-at-requires
+    byte-at-requires-2
+    u16-at-requires
+    u32-at-requires
     decode-fields-requires
     returns)

@@ -7,13 +7,13 @@ use borrow.Author.Needs.{needs}
 use Rattle.records.proofs.records_length.Statement.{statement}
 use Rattle.records.proofs.records_length.Tie as tie
 
-back : (c : tie.After-word) → c .word .result ≡ distance (now (c .before .before .before .before .args .file))
+back : (c : tie.After-u32-at) → c .u32-at .result ≡ distance (now (c .before .before .before .before .args .file))
 unfolding distance
-back c = c .word .ensures
+back c = c .u32-at .ensures
 
-many : (c : tie.After-word2) → c .word2 .result ≡ count (now (c .before .before .before .before .before .args .file))
+many : (c : tie.After-u32-at2) → c .u32-at2 .result ≡ count (now (c .before .before .before .before .before .args .file))
 unfolding count
-many c = c .word2 .ensures
+many c = c .u32-at2 .ensures
 
 returns : tie.Need-returns
 unfolding recordsLength fileRefusal
@@ -27,17 +27,23 @@ returns-2 c =
       le-ltb _ _ (c .before .if1 .left),
     )
 
-word-requires : tie.Need-word-requires
-word-requires c κs = search needs
+cast-u32-at : tie.Need-cast-u32-at
+cast-u32-at c = search needs
+
+u32-at-requires : tie.Need-u32-at-requires
+u32-at-requires c κs = search needs
 
 cast-distance : tie.Need-cast-distance
 cast-distance c = search needs
 
-sub-word : tie.Need-sub-word
-sub-word c = search needs
+sub-u32-at : tie.Need-sub-u32-at
+sub-u32-at c = search needs
 
-word-requires-2 : tie.Need-word-requires-2
-word-requires-2 c κs = search needs
+cast-u32-at-2 : tie.Need-cast-u32-at-2
+cast-u32-at-2 c = search needs
+
+u32-at-requires-2 : tie.Need-u32-at-requires-2
+u32-at-requires-2 c κs = search needs
 
 cast-count : tie.Need-cast-count
 cast-count c = search needs
@@ -67,8 +73,8 @@ returns-4 c = rw (← back (c .before .before .before), ← many (c .before .bef
       le-ltb _ _ (c .before .before .before .before .before .if1 .left),
     ))
 
-mul-t14 : tie.Need-mul-t14
-mul-t14 c = search needs
+mul-t15 : tie.Need-mul-t15
+mul-t15 c = search needs
 
 returns-5 : tie.Need-returns-5
 unfolding recordsLength fileRefusal
@@ -86,14 +92,16 @@ records-length-spec =
     (tie.spec
     returns
     returns-2
-    word-requires
+    cast-u32-at
+    u32-at-requires
     cast-distance
-    sub-word
-    word-requires-2
+    sub-u32-at
+    cast-u32-at-2
+    u32-at-requires-2
     cast-count
     mul-if3
     add-if3
     returns-3
     returns-4
-    mul-t14
+    mul-t15
     returns-5)

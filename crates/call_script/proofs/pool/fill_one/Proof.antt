@@ -7,10 +7,10 @@ use Rattle.call_script.proofs.pool.fill_one.Statement.{statement}
 use Rattle.call_script.proofs.pool.fill_one.Tie as tie
 
 abbrev Inv-loop : tie.InvT-loop
-Inv-loop words₀ state mask s₀ i₀ words s i = length words ≡ length words₀
+Inv-loop words₀ start mask state₀ i₀ words state i = length words ≡ length words₀
 
 abbrev μ-loop : tie.MeasureT-loop
-μ-loop words₀ state mask s₀ i₀ words s i = length words₀ - i
+μ-loop words₀ start mask state₀ i₀ words state i = length words₀ - i
 
 loop-holds : tie.Need-loop-holds Inv-loop μ-loop
 loop-holds c = search needs

@@ -6,10 +6,10 @@ use Rattle.call_script.proofs.pool.hashed_words.Statement.{statement}
 use Rattle.call_script.proofs.pool.hashed_words.Tie as tie
 
 abbrev Inv-loop : tie.InvT-loop
-Inv-loop words h d₀ i₀ d i = Unit {0}
+Inv-loop words start hash₀ i₀ hash i = Unit {0}
 
 abbrev μ-loop : tie.MeasureT-loop
-μ-loop words h d₀ i₀ d i = length words - i
+μ-loop words start hash₀ i₀ hash i = length words - i
 
 loop-holds : tie.Need-loop-holds Inv-loop μ-loop
 loop-holds c = search needs

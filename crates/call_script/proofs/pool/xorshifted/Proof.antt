@@ -13,8 +13,8 @@ left-13 s = omega arith
 left-5 : (s : ℕ) → s % 134217728 * 32 ≡ s * 32 % 4294967296
 left-5 s = omega arith
 
-mul-a : tie.Need-mul-a
-mul-a c = search needs
+mul-first : tie.Need-mul-first
+mul-first c = search needs
 
 mul-result : tie.Need-mul-result
 mul-result c = search needs
@@ -24,4 +24,4 @@ unfolding left13 right17 left5 xorshift
 returns c = rw (left-13, left-5)
 
 pub xorshifted-spec : {M : Type 1} → statement M
-xorshifted-spec = tie.close (tie.spec mul-a mul-result returns)
+xorshifted-spec = tie.close (tie.spec mul-first mul-result returns)

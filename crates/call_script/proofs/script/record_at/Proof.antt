@@ -1,4 +1,4 @@
--- `script::record_at` meets its contract: each field is what `byte` or `word` reads. Assumes nothing.
+-- `script::record_at` meets its contract: each field is what `byte_at` or `u32_at` reads. Assumes nothing.
 use Rattle.call_script.specs.Script.{recordAt}
 use borrow.Author.Needs.{needs}
 use Rattle.call_script.proofs.script.record_at.Statement.{statement}
@@ -7,47 +7,44 @@ use Rattle.call_script.proofs.script.record_at.Tie as tie
 mul-at : tie.Need-mul-at
 mul-at c = search needs
 
-cast-i : tie.Need-cast-i
-cast-i c = search needs
+byte-at-requires : tie.Need-byte-at-requires
+byte-at-requires c κs = search needs
 
-byte-requires : tie.Need-byte-requires
-byte-requires c κs = search needs
+add-byte-at : tie.Need-add-byte-at
+add-byte-at c = search needs
 
-add-byte : tie.Need-add-byte
-add-byte c = search needs
+byte-at-requires-2 : tie.Need-byte-at-requires-2
+byte-at-requires-2 c κs = search needs
 
-byte-requires-2 : tie.Need-byte-requires-2
-byte-requires-2 c κs = search needs
+add-byte-at-2 : tie.Need-add-byte-at-2
+add-byte-at-2 c = search needs
 
-add-byte-2 : tie.Need-add-byte-2
-add-byte-2 c = search needs
+byte-at-requires-3 : tie.Need-byte-at-requires-3
+byte-at-requires-3 c κs = search needs
 
-byte-requires-3 : tie.Need-byte-requires-3
-byte-requires-3 c κs = search needs
+add-byte-at-3 : tie.Need-add-byte-at-3
+add-byte-at-3 c = search needs
 
-add-byte-3 : tie.Need-add-byte-3
-add-byte-3 c = search needs
+byte-at-requires-4 : tie.Need-byte-at-requires-4
+byte-at-requires-4 c κs = search needs
 
-byte-requires-4 : tie.Need-byte-requires-4
-byte-requires-4 c κs = search needs
+add-u32-at : tie.Need-add-u32-at
+add-u32-at c = search needs
 
-add-word : tie.Need-add-word
-add-word c = search needs
+u32-at-requires : tie.Need-u32-at-requires
+u32-at-requires c κs = search needs
 
-word-requires : tie.Need-word-requires
-word-requires c κs = search needs
+add-u32-at-2 : tie.Need-add-u32-at-2
+add-u32-at-2 c = search needs
 
-add-word-2 : tie.Need-add-word-2
-add-word-2 c = search needs
+u32-at-requires-2 : tie.Need-u32-at-requires-2
+u32-at-requires-2 c κs = search needs
 
-word-requires-2 : tie.Need-word-requires-2
-word-requires-2 c κs = search needs
+add-u32-at-3 : tie.Need-add-u32-at-3
+add-u32-at-3 c = search needs
 
-add-word-3 : tie.Need-add-word-3
-add-word-3 c = search needs
-
-word-requires-3 : tie.Need-word-requires-3
-word-requires-3 c κs = search needs
+u32-at-requires-3 : tie.Need-u32-at-requires-3
+u32-at-requires-3 c κs = search needs
 
 returns : tie.Need-returns
 unfolding recordAt
@@ -58,18 +55,17 @@ record-at-spec =
     tie.close
     (tie.spec
     mul-at
-    cast-i
-    byte-requires
-    add-byte
-    byte-requires-2
-    add-byte-2
-    byte-requires-3
-    add-byte-3
-    byte-requires-4
-    add-word
-    word-requires
-    add-word-2
-    word-requires-2
-    add-word-3
-    word-requires-3
+    byte-at-requires
+    add-byte-at
+    byte-at-requires-2
+    add-byte-at-2
+    byte-at-requires-3
+    add-byte-at-3
+    byte-at-requires-4
+    add-u32-at
+    u32-at-requires
+    add-u32-at-2
+    u32-at-requires-2
+    add-u32-at-3
+    u32-at-requires-3
     returns)

@@ -10,8 +10,8 @@ place-requires c κs = search needs
 store-requires : tie.Need-store-requires
 store-requires c κs = search needs
 
-add-r : tie.Need-add-r
-add-r c = search needs
+add-next : tie.Need-add-next
+add-next c = search needs
 
 same-length : tie.Need-same-length
 same-length c = search needs
@@ -26,4 +26,4 @@ returns-2 : tie.Need-returns-2
 returns-2 c = let full = le-ltb _ _ (c .if1 .left) in (simp (full), simp (full))
 
 pub keep-spec : {M : Type 1} → statement M
-keep-spec = tie.close (tie.spec place-requires store-requires add-r same-length returns returns-2)
+keep-spec = tie.close (tie.spec place-requires store-requires add-next same-length returns returns-2)

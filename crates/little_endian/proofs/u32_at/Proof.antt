@@ -1,14 +1,14 @@
--- `script::word` meets its contract: each byte is what `byte` reads. Assumes nothing.
-use Rattle.call_script.specs.Script.{wordAt}
+-- `little_endian::u32_at` meets its contract: each byte is what `byte` reads. Assumes nothing.
+use Rattle.little_endian.proofs.Bytes.{four-bytes}
 use borrow.Author.Needs.{needs}
-use Rattle.call_script.proofs.script.word.Statement.{statement}
-use Rattle.call_script.proofs.script.word.Tie as tie
+use Rattle.little_endian.proofs.u32_at.Statement.{statement}
+use Rattle.little_endian.proofs.u32_at.Tie as tie
 
 byte-requires : tie.Need-byte-requires
 byte-requires c κs = search needs
 
-cast-a : tie.Need-cast-a
-cast-a c = search needs
+cast-first : tie.Need-cast-first
+cast-first c = search needs
 
 add-byte : tie.Need-add-byte
 add-byte c = search needs
@@ -16,8 +16,8 @@ add-byte c = search needs
 byte-requires-2 : tie.Need-byte-requires-2
 byte-requires-2 c κs = search needs
 
-cast-b : tie.Need-cast-b
-cast-b c = search needs
+cast-second : tie.Need-cast-second
+cast-second c = search needs
 
 add-byte-2 : tie.Need-add-byte-2
 add-byte-2 c = search needs
@@ -25,8 +25,8 @@ add-byte-2 c = search needs
 byte-requires-3 : tie.Need-byte-requires-3
 byte-requires-3 c κs = search needs
 
-cast-c : tie.Need-cast-c
-cast-c c = search needs
+cast-third : tie.Need-cast-third
+cast-third c = search needs
 
 add-byte-3 : tie.Need-add-byte-3
 add-byte-3 c = search needs
@@ -34,8 +34,8 @@ add-byte-3 c = search needs
 byte-requires-4 : tie.Need-byte-requires-4
 byte-requires-4 c κs = search needs
 
-cast-d : tie.Need-cast-d
-cast-d c = search needs
+cast-fourth : tie.Need-cast-fourth
+cast-fourth c = search needs
 
 mul-result : tie.Need-mul-result
 mul-result c = search needs
@@ -56,24 +56,25 @@ add-result-3 : tie.Need-add-result-3
 add-result-3 c = search needs
 
 returns : tie.Need-returns
-unfolding wordAt
-returns c = cc
+returns c =
+    rw (c .byte4 .ensures, c .before .byte3 .ensures, c .before .before .byte2 .ensures, c .before .before .before .byte .ensures)
+    (four-bytes _ _)
 
-pub word-spec : {M : Type 1} → statement M
-word-spec =
+pub u32-at-spec : {M : Type 1} → statement M
+u32-at-spec =
     tie.close
     (tie.spec
     byte-requires
-    cast-a
+    cast-first
     add-byte
     byte-requires-2
-    cast-b
+    cast-second
     add-byte-2
     byte-requires-3
-    cast-c
+    cast-third
     add-byte-3
     byte-requires-4
-    cast-d
+    cast-fourth
     mul-result
     add-result
     mul-result-2

@@ -5,8 +5,6 @@ use Rattle.refusal.specs.declared.Refusal.the-variants as refusal
 use Rattle.refusal.specs.Refusals.{numberOf}
 use Rattle.register_map.specs.declared.Access.{Access}
 use Rattle.register_map.specs.declared.Access.the-variants as access
-use Rattle.register_map.specs.declared.Verdict.{Verdict}
-use Rattle.register_map.specs.declared.Verdict.the-variants as verdict
 
 abbrev pub readRefusal : Access → ℕ
 readRefusal access.None = numberOf refusal.UnmappedRegister
@@ -19,8 +17,3 @@ writeRefusal access.None = numberOf refusal.UnmappedRegister
 writeRefusal access.ReadOnly = numberOf refusal.AccessViolation
 writeRefusal access.WriteOnly = 0
 writeRefusal access.ReadWrite = 0
-
--- the number that each case of a verdict stands for
-abbrev pub verdictNumber : Verdict → ℕ
-verdictNumber verdict.Allowed = 0
-verdictNumber (verdict.Refused r) = numberOf r

@@ -1,11 +1,10 @@
--- `records::byte` meets its contract. Assumes nothing.
+-- `little_endian::byte` meets its contract: past the end `getD` answers its default. Assumes nothing.
 use mathlib.Core.Path.{sym}
-use native.Mathlib.Omega.{arith}
 use lib.ListN.{List·getD-eq-default}
 use denote.Ref.{now}
 use borrow.Author.Needs.{needs}
-use Rattle.records.proofs.byte.Statement.{statement}
-use Rattle.records.proofs.byte.Tie as tie
+use Rattle.little_endian.proofs.byte.Statement.{statement}
+use Rattle.little_endian.proofs.byte.Tie as tie
 
 shared-slice-read-result : tie.Need-shared-slice-read-result
 shared-slice-read-result c = search needs
@@ -14,7 +13,7 @@ returns : tie.Need-returns
 returns c = search needs
 
 returns-2 : tie.Need-returns-2
-returns-2 c = sym (List·getD-eq-default (now (c .before .args .s)) 0 (omega arith))
+returns-2 c = sym (List·getD-eq-default (now (c .before .args .bytes)) 0 (c .if1 .left))
 
 pub byte-spec : {M : Type 1} → statement M
 byte-spec = tie.close (tie.spec shared-slice-read-result returns returns-2)
