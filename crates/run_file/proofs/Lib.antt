@@ -1,4 +1,1 @@
 pub mod Turns
-pub mod Few
-pub mod Laws
-pub mod Lines

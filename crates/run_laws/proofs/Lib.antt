@@ -1,3 +1,6 @@
+pub mod Few
+pub mod Drawn
+pub mod Lines
 pub mod Runs
 pub mod RefusedRecords
 pub mod Observed

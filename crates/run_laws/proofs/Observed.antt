@@ -33,7 +33,7 @@ use Rattle.isolation.specs.Calls.{Call, writeRegister, readRegister, writeSetpo
 use Rattle.isolation.specs.Feeding.{only, Scope, ofOne, ofEach, ofMain, ofAll, ofNone, writeScope, readScope, answerFor, shared, sharedRead, observeIn, observe}
 use Rattle.channel.proofs.Cases.{by-test}
 use Rattle.tally.specs.Tallies.{sends}
-use Rattle.run_file.specs.Laws.{howMany}
+use Rattle.run_laws.specs.Drawn.{howMany}
 
 -- no frame
 record Quiet (a : Answer) : Type 0 where

@@ -25,8 +25,8 @@ use Rattle.tally.specs.Answers.{counted}
 use Rattle.replay.specs.Worlds.{tickAnswers, answers}
 use Rattle.tally.specs.Tallies.{sends}
 use Rattle.run_file.specs.Runs.{start, askedAt, worldAfter, answersAlong, runOf}
-use Rattle.run_file.specs.Laws.{howMany, answersOf, Drawn}
-use Rattle.run_file.proofs.Laws.{many-append, run-drawn}
+use Rattle.run_laws.specs.Drawn.{howMany, answersOf, Drawn}
+use Rattle.run_laws.proofs.Drawn.{many-append, run-drawn}
 use Rattle.run_laws.specs.OneChannelFrames.{callsOf, callsAlong, lent, lending, itemsOf, framesOfChannel, zeroedChannel, OneChannelFrames}
 use Rattle.run_laws.proofs.Runs.{answers-first, played, step-lent, allowed, played-along, start-opens, not-refused}
 use Rattle.run_laws.proofs.Observed.{frames-observed}

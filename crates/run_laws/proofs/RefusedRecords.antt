@@ -20,8 +20,8 @@ use Rattle.tally.specs.declared.Counts.{Counts}
 use Rattle.tally.specs.Answers.{counted}
 use Rattle.replay.specs.Worlds.{tickAnswers, answers}
 use Rattle.run_file.specs.Runs.{start, answersAlong, runOf}
-use Rattle.run_file.specs.Laws.{howMany}
-use Rattle.run_file.proofs.Laws.{many-append, run-drawn}
+use Rattle.run_laws.specs.Drawn.{howMany}
+use Rattle.run_laws.proofs.Drawn.{many-append, run-drawn}
 use Rattle.run_laws.specs.RefusedRecords.{refusedOne, recordAnswers, refusedRecords, RefusedRecords}
 use Rattle.run_laws.proofs.Runs.{answers-first, good-along, sized-along}
 

@@ -16,7 +16,7 @@ use Rattle.records.specs.Requests.{Asked}
 use Rattle.records.specs.Requests as asked
 use Rattle.tally.specs.declared.Counts.{Counts}
 use Rattle.run_file.specs.Runs.{start, askedAt, worldAfter}
-use Rattle.run_file.specs.Laws.{howMany}
+use Rattle.run_laws.specs.Drawn.{howMany}
 
 -- the calls that a record makes: "5 b ticks" makes b, a bad record none
 unfoldable pub callsOf : Asked → List Call

@@ -11,7 +11,7 @@ use Rattle.records.specs.Files.{count, recordsPart}
 use Rattle.tally.specs.declared.Counts.{Counts}
 use Rattle.replay.specs.Worlds.{tickAnswers, answers}
 use Rattle.run_file.specs.Runs.{start, askedAt, worldAfter}
-use Rattle.run_file.specs.Laws.{howMany}
+use Rattle.run_laws.specs.Drawn.{howMany}
 
 -- the world before record k of a file, from 0, and what that record is answered
 abbrev pub before : List ℕ → ℕ → World

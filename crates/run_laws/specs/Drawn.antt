@@ -1,5 +1,5 @@
 -- Document 01, 'Run file and log line': what the log line's counts are, against the answers that the board's calls gave along the run, for every
--- file that is not refused (proofs/Laws.antt); and that the line tells them (proofs/Lines.antt).
+-- file that is not refused (proofs/Drawn.antt); and that the line tells them (proofs/Lines.antt).
 use Prim.Native.Nat.{ℕ, _+_}
 use mathlib.Core.Path.{_≡_}
 use mathlib.Core.Bool.{Bool}

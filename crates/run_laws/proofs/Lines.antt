@@ -14,10 +14,10 @@ use Rattle.tally.specs.Tallies.{sends}
 use Rattle.tally.specs.Answers.{counted, refused}
 use Rattle.log_line.specs.Numerals.{SmallCounts, Small}
 use Rattle.log_line.proofs.Reading.{line-tells}
 use Rattle.run_file.specs.Runs.{start, countsAfter, runOf, runLine}
-use Rattle.run_file.specs.Laws.{howMany, answersOf, RunLineTells}
-use Rattle.run_file.proofs.Few.{along-few}
-use Rattle.run_file.proofs.Laws.{many-le, drawn}
+use Rattle.run_laws.specs.Drawn.{howMany, answersOf, RunLineTells}
+use Rattle.run_laws.proofs.Few.{along-few}
+use Rattle.run_laws.proofs.Drawn.{many-le, drawn}
 
 module _ (file : List ℕ) (e : fileRefusal file ≡ 0) where
   many-small : (test : BoardAnswer → Bool) {n : ℕ} → n ≡ howMany test (answersOf file) → n < 10000000000

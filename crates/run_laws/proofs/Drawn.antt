@@ -19,9 +19,9 @@ use Rattle.tally.specs.Tallies.{nothingYet, more, sends, tally, tallies, steppe
 use Rattle.tally.specs.Answers.{counted, refused}
 use Rattle.board.specs.Worlds.{World}
 use Rattle.replay.specs.Worlds.{answers}
 use Rattle.run_file.specs.Runs.{start, askedAt, worldAfter, answersAlong, countsAfter, runOf}
-use Rattle.run_file.specs.Laws.{howMany, answersOf, Drawn}
-use Rattle.run_file.proofs.Few.{along-few}
+use Rattle.run_laws.specs.Drawn.{howMany, answersOf, Drawn}
+use Rattle.run_laws.proofs.Few.{along-few}
 
 more-is : (test : Bool) (n : ℕ) → n < 4294967295 → more test n ≡ bitOf test + n
 more-is true n h = rw (lt-ltb n 4294967295 h) (omega arith)
