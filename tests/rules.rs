@@ -47,7 +47,7 @@ const ARCHITECTURE: &str = "docs/ARCHITECTURE.md";
 // - DECISIONS: the quotes of the document, one in a line, with no line break after the last.
 const RECORDED: &[(&str, &str, usize, &str)] = &[
     (RULES, "document 01", 12836, "fbe055717a213fa1f2da2d30af2a07d97468556963ed01d9a36c4ea7241166e6"),
-    (DECISIONS, "document 01", 8091, "0c03647063dfd75ec9ea16a4afde50b8529bf7f082c6f42ed32e84344f6e89e5"),
+    (DECISIONS, "document 01", 8233, "ff9c861b788ba3718a6b73d54fad11b19e4e08205dce8e4fed37e1b54ec1da6c"),
     (DECISIONS, "document 02", 723, "51681ffa7569f19996e953815b0c6e93e9d5ea341aaaa4a6f97abe0e4fedf139"),
 ];
 
