@@ -1,17 +1,17 @@
 // Register write and read on the board: the address names a channel, Main, or nothing. A crate of its own to keep each check short.
+use address_map::Region;
 use board_state::Board;
 use board_state::Written;
 use channel::Outcome;
 use channel::ReadOutcome;
 use refusal::Refusal;
 use refusal::Verdict;
-use register_map::Region;
 ghost use mathlib.Core.Path.{_≡_};
 ghost use Prim.Native.Nat.{_*_, _≤_};
 ghost use lib.ListN.{length};
 ghost use Rattle.channel.specs.Answers.{outcomeOf, readOutcomeOf};
 ghost use Rattle.channel.specs.Calls.{writtenOf, writtenAnswer, writtenWords};
-ghost use Rattle.register_map.specs.Addresses.{main, channel};
+ghost use Rattle.address_map.specs.Addresses.{main, channel};
 ghost use Rattle.board_state.specs.State.{channelAt, withChannelAt};
 ghost use Rattle.board_state.specs.Parts.{own, withOwn};
 ghost use Rattle.board_state.specs.Lending.{readbackSize};
@@ -66,7 +66,7 @@ pub fn write_register(b: Board, readbacks: &mut [u32], address: u32, value: u16)
             outcome: Outcome::Refused(Refusal::SizeMismatch),
         };
     }
-    let region = register_map::decode_address(address);
+    let region = address_map::decode_address(address);
     match region {
         Region::Main { offset } => write_main(b, offset, value),
         Region::Channel { number, offset } => write_channel(b, readbacks, number, offset, value),
@@ -110,7 +110,7 @@ fn read_channel(b: Board, number: u8, offset: u16) -> Read
 pub fn read_register(b: Board, address: u32) -> Read
     ensures { λ r. ⌜ (r .board ≡ readBoard b address) × (readOutcomeOf (r .outcome) ≡ readAnswer b address) ⌝ }
 {
-    let region = register_map::decode_address(address);
+    let region = address_map::decode_address(address);
     match region {
         Region::Main { offset } => read_main(b, offset),
         Region::Channel { number, offset } => read_channel(b, number, offset),

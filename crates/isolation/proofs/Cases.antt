@@ -8,7 +8,7 @@ use lib.ListN.{length, getD, set}
 use lib.Seq.{getD-set-same, getD-set-other, set-getD}
 use lib.Dec.{eqb}
 use borrow.Author.Tests.{le-ltb}
-use Rattle.register_map.specs.Addresses.{named, channel}
+use Rattle.address_map.specs.Addresses.{named, channel}
 use Rattle.channel_core.specs.declared.Channel.{Channel}
 use Rattle.channel_core.specs.State.{opened}
 use Rattle.channel_core.specs.Answers.{Answer, isRefusal}
@@ -16,7 +16,7 @@ use Rattle.channel.specs.Calls.{unless}
 use Rattle.board_state.specs.declared.Board.{Board}
 use Rattle.board_state.specs.State.{channelAt, withChannelAt, withChannels}
 use Rattle.board_state.specs.Lending.{noChannel}
-use Rattle.register_map.proofs.Laws.{named-channel}
+use Rattle.address_map.proofs.Laws.{named-channel}
 use Rattle.channel.proofs.Cases.{clash}
 use Rattle.channel.proofs.Ranges.{inside}
 use Rattle.board.specs.Answers.{ofFour}

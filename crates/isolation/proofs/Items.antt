@@ -7,7 +7,7 @@ use mathlib.Core.List.{[], _∷_}
 use lib.ListN.{length}
 use lib.Dec.{eqb}
 use borrow.Author.Tests.{eqb-true, eqb-false}
-use Rattle.register_map.specs.Addresses.{Named, named, main, channel, nothing}
+use Rattle.address_map.specs.Addresses.{Named, named, main, channel, nothing}
 use Rattle.channel_core.specs.Answers.{Answer, isRefusal}
 use Rattle.channel.specs.OneChannel.{Query, ChannelCall, refusalOf, effect, transition, response, transitions, responses}
 use Rattle.channel.specs.OneChannel as to

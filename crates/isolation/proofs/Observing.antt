@@ -7,7 +7,7 @@ use mathlib.Core.List.{List}
 use lib.ListN.{length}
 use lib.Dec.{eqb}
 use borrow.Author.Tests.{eqb-true}
-use Rattle.register_map.specs.Addresses.{named, main, channel}
+use Rattle.address_map.specs.Addresses.{named, main, channel}
 use Rattle.register_map.specs.AccessRule.{mainAccess}
 use Rattle.register_map.specs.AccessRefusals.{readRefusal, writeRefusal}
 use Rattle.channel_core.specs.Answers.{Answer, isRefusal}

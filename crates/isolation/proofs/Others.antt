@@ -8,7 +8,7 @@ use native.Mathlib.Omega.{arith}
 use lib.ListN.{length}
 use lib.Dec.{eqb}
 use borrow.Author.Tests.{eqb-true, eq-eqb, ne-eqb}
-use Rattle.register_map.specs.Addresses.{Named, named, main, channel, nothing}
+use Rattle.address_map.specs.Addresses.{Named, named, main, channel, nothing}
 use Rattle.channel_core.specs.Behaviour as core
 use Rattle.channel.specs.Calls as chn
 use Rattle.channel.specs.OneChannel.{withChannel, withSetpoints}

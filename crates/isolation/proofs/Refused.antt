@@ -8,7 +8,7 @@ use Rattle.frame.specs.Frames.{Reading, read}
 use Rattle.frame.specs.Frames as frame
 use Rattle.readback.specs.declared.Disposition.{Disposition}
 use Rattle.readback.specs.declared.Disposition.the-variants as disposition
-use Rattle.register_map.specs.Addresses.{Named, named, main, channel, nothing}
+use Rattle.address_map.specs.Addresses.{Named, named, main, channel, nothing}
 use Rattle.register_map.specs.AccessRule.{channelAccess, mainAccess}
 use Rattle.register_map.specs.AccessRefusals.{readRefusal, writeRefusal}
 use Rattle.channel_core.specs.declared.Channel.{Channel}

@@ -4,7 +4,7 @@ use mathlib.Core.Path.{_≡_, refl, sym, ap, subst}
 use mathlib.Core.Logic.{inl, inr}
 use mathlib.Core.Bool.{true, false}
 use lib.ListN.{length}
-use Rattle.register_map.proofs.Laws.{channel-named}
+use Rattle.address_map.proofs.Laws.{channel-named}
 use Rattle.channel_core.specs.Answers.{Answer, isRefusal}
 use Rattle.channel.specs.OneChannel.{OneChannel, response, transitions}
 use Rattle.channel.specs.OneChannel as to

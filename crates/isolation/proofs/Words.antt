@@ -6,7 +6,7 @@ use mathlib.Core.List.{List}
 use lib.ListN.{length}
 use lib.Dec.{eqb}
 use borrow.Author.Tests.{eq-eqb, eqb-true}
-use Rattle.register_map.specs.Addresses.{named, channel}
+use Rattle.address_map.specs.Addresses.{named, channel}
 use Rattle.channel_core.specs.Behaviour as core
 use Rattle.channel.specs.Calls as chn
 use Rattle.channel.proofs.Cases.{by-test}

@@ -5,7 +5,7 @@ use mathlib.Core.Bool.{Bool, true, false, cond, _||_}
 use lib.ListN.{length}
 use lib.Dec.{eqb}
 use Rattle.status.specs.Bits.{bitAt}
-use Rattle.register_map.specs.Addresses.{Named, named, main, channel, nothing}
+use Rattle.address_map.specs.Addresses.{Named, named, main, channel, nothing}
 use Rattle.channel_core.specs.Answers.{Answer, isRefusal}
 use Rattle.channel_core.specs.Answers as ans
 use Rattle.channel.specs.OneChannel.{OneChannel, ChannelCall}

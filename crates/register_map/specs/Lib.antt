@@ -1,3 +1,2 @@
-pub mod Addresses
 pub mod AccessRule
 pub mod AccessRefusals

@@ -1,19 +1,11 @@
-// The register map of document 01: whose an address is, and the access of each offset, in one table that all register calls consult.
+// The register map of document 01: the access of each offset, in one table that all register calls consult.
 ghost use mathlib.Core.Path.{_≡_};
 ghost use Prim.Native.Nat.{_<_};
-ghost use Rattle.register_map.specs.Addresses.{named, namedOf};
 ghost use Rattle.register_map.specs.AccessRule.{channelAccess, entryAccess, mainAccess};
 ghost use Rattle.register_map.specs.AccessRefusals.{readRefusal, writeRefusal};
 ghost use Rattle.refusal.specs.Refusals.{verdictNumber};
 use refusal::Refusal;
 use refusal::Verdict;
-
-// What an address names: Main or a channel (1 to 4), with the offset from its start, or neither (2800h and above).
-pub enum Region {
-    Main { offset: u16 },
-    Channel { number: u8, offset: u16 },
-    Outside,
-}
 
 // What a register call may do at an offset. None: the offset is not in the map.
 pub enum Access {
@@ -21,24 +13,6 @@ pub enum Access {
     ReadOnly,
     WriteOnly,
     ReadWrite,
-}
-
-// "A register call names the channel in whose 0800h its address falls; below 0800h is Main; 2800h and above is refused 3."
-pub fn decode_address(address: u32) -> Region
-    ensures { λ r. ⌜ namedOf r ≡ named address ⌝ }
-{
-    if address < 0x800 {
-        return Region::Main {
-            offset: address as u16,
-        };
-    }
-    if address < 0x2800 {
-        return Region::Channel {
-            number: (address / 0x800) as u8,
-            offset: (address % 0x800) as u16,
-        };
-    }
-    Region::Outside
 }
 
 // "The access of each offset stands in one table": a channel's even offsets from 00 to FE, then Main's from 22 to 2A.

@@ -5,7 +5,7 @@ use mathlib.Core.Bool.{Bool, true, false, _||_}
 use mathlib.Core.List.{[], _∷_}
 use lib.ListN.{length}
 use lib.Dec.{eqb}
-use Rattle.register_map.specs.Addresses.{Named, named, main, channel, nothing}
+use Rattle.address_map.specs.Addresses.{Named, named, main, channel, nothing}
 use Rattle.register_map.specs.AccessRule.{channelAccess, mainAccess}
 use Rattle.register_map.specs.AccessRefusals.{readRefusal, writeRefusal}
 use Rattle.frame.specs.Frames.{Reading, read}

@@ -1,8 +1,8 @@
 -- `board_registers::write_register` meets its contract: the length, then what the address names. Assumes nothing.
 use Rattle.board_registers.proofs.write_register.Statement.{statement}
 use Rattle.board_registers.specs.Calls.{writeBoard, writeAnswer, writeWords}
-use Rattle.register_map.proofs.Laws.{named-channel}
-use Rattle.register_map.specs.Addresses.{namedOf}
+use Rattle.address_map.proofs.Laws.{named-channel}
+use Rattle.address_map.specs.Addresses.{namedOf}
 use borrow.Author.Needs.{needs}
 use borrow.Author.Tests.{eq-eqb, ne-eqb}
 use mathlib.Core.Path.{sym, ap, _∙_}

@@ -2,8 +2,8 @@
 use Prim.Native.Nat.{ℕ, _/_, _%_}
 use mathlib.Core.Bool.{cond}
 use lib.Dec.{ltb}
-use Rattle.register_map.specs.declared.Region.{Region}
-use Rattle.register_map.specs.declared.Region.the-variants as region
+use Rattle.address_map.specs.declared.Region.{Region}
+use Rattle.address_map.specs.declared.Region.the-variants as region
 
 pub data Named : Type 0 where
   main : (offset : ℕ) → Named

@@ -1,10 +1,10 @@
--- `register_map::decode_address` names what the definition does, at each of its three returns. Assumes nothing.
+-- `address_map::decode_address` names what the definition does, at each of its three returns. Assumes nothing.
 use native.Mathlib.Omega.{arith}
 use borrow.Author.Needs.{needs}
 use borrow.Author.Tests.{lt-ltb, le-ltb}
-use Rattle.register_map.specs.Addresses.{named}
-use Rattle.register_map.proofs.decode_address.Statement.{statement}
-use Rattle.register_map.proofs.decode_address.Tie as tie
+use Rattle.address_map.specs.Addresses.{named}
+use Rattle.address_map.proofs.decode_address.Statement.{statement}
+use Rattle.address_map.proofs.decode_address.Tie as tie
 
 cast-t3 : tie.Need-cast-t3
 cast-t3 c = search needs
