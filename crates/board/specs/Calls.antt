@@ -8,10 +8,10 @@ use lib.Dec.{eqb}
 use Rattle.refusal.specs.Refusals.{numberOf}
 use Rattle.refusal.specs.declared.Refusal.the-variants as refusal
 use Rattle.channel_core.specs.declared.Channel.{Channel}
-use Rattle.channel_core.specs.Answers.{Answer}
+use Rattle.channel_core.specs.Answers.{Answer, unless}
 use Rattle.channel_core.specs.Answers as ans
 use Rattle.channel_core.specs.Behaviour as core
-use Rattle.channel.specs.Calls.{unless, outside}
+use Rattle.channel.specs.Calls.{outside}
 use Rattle.channel.specs.OneChannel.{userRefusal}
 use Rattle.board_state.specs.declared.Board.{Board}
 use Rattle.board_state.specs.State.{opened, channelAt, withChannelAt, withUser, eventCame}

@@ -1,14 +1,13 @@
 // Opening, and the calls that every channel shares: tick, event, user change, and the interrupt level. Each lends a channel only its own part of the memory, and goes by that channel's own rules.
 use board_state::Board;
 use board_state::Written;
-use channel::Outcome;
 use channel_core::Line;
+use channel_core::Outcome;
 use refusal::Refusal;
 ghost use mathlib.Core.Path.{_≡_};
 ghost use Prim.Native.Nat.{_*_, _≤_};
 ghost use lib.ListN.{length};
-ghost use Rattle.channel_core.specs.Answers.{lineOf};
-ghost use Rattle.channel.specs.Answers.{outcomeOf};
+ghost use Rattle.channel_core.specs.Answers.{lineOf, outcomeOf};
 ghost use Rattle.board_state.specs.Main.{levelOf};
 ghost use Rattle.board_state.specs.Lending.{sizeMismatch};
 ghost use Rattle.board.specs.Answers.{framesOf};

@@ -7,10 +7,9 @@ use lib.ListN.{length}
 use lib.Dec.{eqb}
 use Rattle.refusal.specs.Refusals.{numberOf}
 use Rattle.refusal.specs.declared.Refusal.the-variants as refusal
-use Rattle.channel_core.specs.Answers.{Answer}
+use Rattle.channel_core.specs.Answers.{Answer, unless}
 use Rattle.channel_core.specs.Answers as ans
 use Rattle.channel_core.specs.Behaviour as core
-use Rattle.channel.specs.Calls.{unless}
 use Rattle.channel.specs.Calls as one
 use Rattle.board_state.specs.declared.Board.{Board}
 use Rattle.board_state.specs.State.{channelAt, withChannelAt}

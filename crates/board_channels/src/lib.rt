@@ -1,14 +1,14 @@
 // The calls that name a channel by its number: setpoint write, arm, disarm, reply, and the retired readbacks. Each lends the channel only its own part of the memory, and goes by that channel's own rules.
 use board_state::Board;
 use board_state::Written;
-use channel::Outcome;
 use channel::PartLength;
+use channel_core::Outcome;
 use channel_core::Receipt;
 use refusal::Refusal;
 ghost use mathlib.Core.Path.{_≡_};
 ghost use lib.ListN.{length};
-ghost use Rattle.channel_core.specs.Answers.{receiptOf};
-ghost use Rattle.channel.specs.Answers.{outcomeOf, lengthOf};
+ghost use Rattle.channel_core.specs.Answers.{receiptOf, outcomeOf};
+ghost use Rattle.channel.specs.Answers.{lengthOf};
 ghost use Rattle.board_channels.specs.Calls.{setpointAnswer, setpointWords, setArmed, armBoard, disarmBoard, armAnswer, replyBoard, replyAnswer, replyWords, partOf, retiredAnswer, retiredLength};
 
 // The board after a reply, and what became of it.

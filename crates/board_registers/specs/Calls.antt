@@ -10,10 +10,9 @@ use Rattle.refusal.specs.declared.Refusal.the-variants as refusal
 use Rattle.address_map.specs.Addresses.{Named, named, main, channel, nothing}
 use Rattle.register_map.specs.AccessRule.{mainAccess}
 use Rattle.register_map.specs.AccessRefusals.{readRefusal, writeRefusal}
-use Rattle.channel_core.specs.Answers.{Answer}
+use Rattle.channel_core.specs.Answers.{Answer, unless}
 use Rattle.channel_core.specs.Answers as ans
-use Rattle.channel.specs.Calls.{unless}
-use Rattle.channel.specs.Calls as one
+use Rattle.channel_registers.specs.Calls as one
 use Rattle.board_state.specs.declared.Board.{Board}
 use Rattle.board_state.specs.State.{channelAt, withChannelAt}
 use Rattle.board_state.specs.Main.{mainWritten, mainValue, mainRead}

@@ -2,15 +2,16 @@
 use address_map::Region;
 use board_state::Board;
 use board_state::Written;
-use channel::Outcome;
-use channel::ReadOutcome;
+use channel_core::Outcome;
+use channel_registers::ReadOutcome;
 use refusal::Refusal;
 use refusal::Verdict;
 ghost use mathlib.Core.Path.{_≡_};
 ghost use Prim.Native.Nat.{_*_, _≤_};
 ghost use lib.ListN.{length};
-ghost use Rattle.channel.specs.Answers.{outcomeOf, readOutcomeOf};
-ghost use Rattle.channel.specs.Calls.{writtenOf, writtenAnswer, writtenWords};
+ghost use Rattle.channel_core.specs.Answers.{outcomeOf};
+ghost use Rattle.channel_registers.specs.Answers.{readOutcomeOf};
+ghost use Rattle.channel_registers.specs.Calls.{writtenOf, writtenAnswer, writtenWords};
 ghost use Rattle.address_map.specs.Addresses.{main, channel};
 ghost use Rattle.board_state.specs.State.{channelAt, withChannelAt};
 ghost use Rattle.board_state.specs.Parts.{own, withOwn};
@@ -31,7 +32,13 @@ fn write_channel(b: Board, readbacks: &mut [u32], number: u8, offset: u16, value
     let named = b.channel(number);
     let start = board_state::part_start(number, m, 2);
     let end = start + m as usize * 2;
-    let written = channel::write_register(named, &mut readbacks[start..end], m, offset, value);
+    let written = channel_registers::write_register(
+        named,
+        &mut readbacks[start..end],
+        m,
+        offset,
+        value,
+    );
     let changed = written.channel;
     let outcome = written.outcome;
     Written {
@@ -98,7 +105,7 @@ fn read_main(b: Board, offset: u16) -> Read
 fn read_channel(b: Board, number: u8, offset: u16) -> Read
     ensures { λ r. ⌜ (r .board ≡ readBoardAt (channel number offset) b) × (readOutcomeOf (r .outcome) ≡ readAnswerAt (channel number offset) b) ⌝ }
 {
-    let read = channel::read_register(b.channel(number), offset);
+    let read = channel_registers::read_register(b.channel(number), offset);
     let changed = read.channel;
     let outcome = read.outcome;
     Read {

@@ -1,6 +1,6 @@
 // The board's state: depths, current user, Main registers and four channels. It holds no rule of what a channel does.
-use channel::Outcome;
 use channel_core::Channel;
+use channel_core::Outcome;
 use status::weigh;
 ghost use mathlib.Core.Path.{_≡_};
 ghost use Prim.Native.Nat.{_*_};

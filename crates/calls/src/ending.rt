@@ -1,7 +1,7 @@
 // The last six lines (tests/CALLS.md, The end): the pools' digest, the interrupt level, the retired counts, and every register.
 use board_state::Board;
 use call_script::pool;
-use channel::ReadOutcome;
+use channel_registers::ReadOutcome;
 use output::Block;
 
 fn value(block: &mut Block, contents: u16) {

@@ -3,22 +3,8 @@
 use Rattle.refusal.specs.Refusals.{numberOf}
 use Rattle.channel_core.specs.Answers.{Answer}
 use Rattle.channel_core.specs.Answers as ans
-use Rattle.channel.specs.declared.Outcome.{Outcome}
-use Rattle.channel.specs.declared.Outcome.the-variants as outcome
-use Rattle.channel.specs.declared.ReadOutcome.{ReadOutcome}
-use Rattle.channel.specs.declared.ReadOutcome.the-variants as read
 use Rattle.channel.specs.declared.PartLength.{PartLength}
 use Rattle.channel.specs.declared.PartLength.the-variants as long
-
--- the answer of a call that has nothing to tell but that it was done
-abbrev pub outcomeOf : Outcome → Answer
-outcomeOf outcome.Done = ans.done
-outcomeOf (outcome.Refused k) = ans.refused (numberOf k)
-
--- the answer of a register read
-abbrev pub readOutcomeOf : ReadOutcome → Answer
-readOutcomeOf (read.Value v) = ans.value v
-readOutcomeOf (read.Refused k) = ans.refused (numberOf k)
 
 -- the answer of the call beside retired readbacks
 abbrev pub lengthOf : PartLength → Answer

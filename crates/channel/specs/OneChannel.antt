@@ -14,11 +14,12 @@ use Rattle.register_map.specs.AccessRefusals.{readRefusal, writeRefusal}
 use Rattle.registers.specs.Map.{secondActive, readbackPlace}
 use Rattle.readback.specs.Storing.{retiredPart}
 use Rattle.channel_core.specs.declared.Channel.{Channel}
-use Rattle.channel_core.specs.Answers.{Answer}
+use Rattle.channel_core.specs.Answers.{Answer, unless}
 use Rattle.channel_core.specs.Answers as ans
 use Rattle.channel_core.specs.State.{opened}
 use Rattle.channel_core.specs.Behaviour.{userChanged, eventOf, eventWords, tickOf, tickAnswer, replyAnswer, replyOf, replyWords}
-use Rattle.channel.specs.Calls.{unless, registerRefusal, registerEffect, registerWords, readEffect, readValue, outside, setpointRefusal, setpointWords, armedOf, disarmedOf, retiredRefusal, mainBit, mainTaken}
+use Rattle.channel_registers.specs.Calls.{registerRefusal, registerEffect, registerWords, readEffect, readValue}
+use Rattle.channel.specs.Calls.{outside, setpointRefusal, setpointWords, armedOf, disarmedOf, retiredRefusal, mainBit, mainTaken}
 
 -- the calls that name the channel and change nothing. One more is a case here, and its refusal and its answer (`queryRefusal`, `queryAnswer`).
 pub data Query : Type 0 where

@@ -1,7 +1,8 @@
 -- Document 01, 'Calls' and 'A channel's life': what calls answer, in its own numbers and values, and which of them each case of an answer in the code stands for.
 use Prim.Native.Nat.{ℕ}
-use mathlib.Core.Bool.{Bool, true, false}
+use mathlib.Core.Bool.{Bool, true, false, cond}
 use mathlib.Core.List.{List}
+use lib.Dec.{eqb}
 use Rattle.refusal.specs.Refusals.{numberOf}
 use Rattle.channel_core.specs.Results.{Result}
 use Rattle.channel_core.specs.Results as result
@@ -9,6 +10,8 @@ use Rattle.channel_core.specs.declared.Receipt.{Receipt}
 use Rattle.channel_core.specs.declared.Receipt.the-variants as receipt
 use Rattle.channel_core.specs.declared.Line.{Line}
 use Rattle.channel_core.specs.declared.Line.the-variants as line
+use Rattle.channel_core.specs.declared.Outcome.{Outcome}
+use Rattle.channel_core.specs.declared.Outcome.the-variants as outcome
 
 -- A new kind of result that no test below asks for is one more case of `Result`, and a name for it here.
 pub data Answer : Type 0 where
@@ -46,6 +49,10 @@ unsolicited = other result.unsolicited
 abbrev pub partLength : ℕ → Answer
 partLength k = other (result.partLength k)
 
+-- refused with this number, or not
+abbrev pub unless : ℕ → Answer → Answer
+unless k a = cond (eqb k 0) a (refused k)
+
 -- the answer of a reply
 abbrev pub receiptOf : Receipt → Answer
 receiptOf receipt.Kept = kept
@@ -57,6 +64,11 @@ receiptOf (receipt.Refused k) = refused (numberOf k)
 abbrev pub lineOf : Line → Answer
 lineOf line.Silent = none
 lineOf (line.Frame f) = frame f
+
+-- the answer of a call that has nothing to tell but that it was done
+abbrev pub outcomeOf : Outcome → Answer
+outcomeOf outcome.Done = done
+outcomeOf (outcome.Refused k) = refused (numberOf k)
 
 -- ---- What is asked of an answer
 

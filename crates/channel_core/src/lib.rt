@@ -39,6 +39,12 @@ pub enum Receipt {
     Refused(Refusal),
 }
 
+// The answer of a call that has nothing to tell but that it was done.
+pub enum Outcome {
+    Done,
+    Refused(Refusal),
+}
+
 pub struct Ticked {
     pub channel: Channel,
     pub line: Line,

@@ -6,7 +6,8 @@ use Rattle.register_map.specs.AccessRule.{channelAccess}
 use Rattle.registers.specs.Map.{stored}
 use Rattle.sequencer.specs.Playing as seq
 use Rattle.channel_core.specs.State.{opened}
-use Rattle.channel.specs.Calls.{registerRefusal, registerEffect, registerWords, setpointRefusal, setpointWords, armedOf}
+use Rattle.channel_registers.specs.Calls.{registerRefusal, registerEffect, registerWords}
+use Rattle.channel.specs.Calls.{setpointRefusal, setpointWords, armedOf}
 use Rattle.channel.specs.OneChannel.{refusalOf, effect, transition}
 use Rattle.examples.specs.Starred.{PauseOne}
 use Rattle.examples.specs.Reached.{pausing, Reached}

@@ -13,7 +13,8 @@ use Rattle.channel_core.specs.State.{reset}
 use Rattle.channel_core.specs.Answers.{Answer}
 use Rattle.channel_core.specs.Answers as ans
 use Rattle.channel_core.specs.Behaviour.{dueOf, tickOf, tickAnswer, userChanged}
-use Rattle.channel.specs.Calls.{registerEffect, readEffect, mainTaken, armedOf, disarmedOf}
+use Rattle.channel_registers.specs.Calls.{registerEffect, readEffect}
+use Rattle.channel.specs.Calls.{mainTaken, armedOf, disarmedOf}
 use Rattle.channel.specs.OneChannel.{Query, ChannelCall, OneChannel, queryAnswer, effect, answer, transition, response, mainRead, mainAnswer, userChange}
 use Rattle.channel.specs.OneChannel as call
 use Rattle.histories.specs.History.{entry, asks, endsGroup, resets, stops}

@@ -8,7 +8,8 @@ use Rattle.registers.specs.Map.{triggersOf, groupEndEvent}
 use Rattle.sequencer.specs.Playing.{isIdle}
 use Rattle.channel_core.specs.declared.Channel.{Channel}
 use Rattle.channel_core.specs.Behaviour.{started, startedIf, endedIf, resumedIf, resumedOn, eventOf, commanded}
-use Rattle.channel.specs.Calls.{readEffect, mainTaken}
+use Rattle.channel_registers.specs.Calls.{readEffect}
+use Rattle.channel.specs.Calls.{mainTaken}
 use Rattle.channel.specs.OneChannel.{mainRead}
 use Rattle.channel.proofs.Cases.{either}
 

@@ -15,7 +15,8 @@ use Rattle.channel_core.specs.declared.Channel.{Channel}
 use Rattle.channel_core.specs.State as state
 use Rattle.channel_core.specs.Answers.{Answer}
 use Rattle.channel_core.specs.Behaviour.{userChanged}
-use Rattle.channel.specs.Calls.{registerRefusal, registerEffect, readEffect, outside, armedOf, disarmedOf, mainTaken}
+use Rattle.channel_registers.specs.Calls.{registerRefusal, registerEffect, readEffect}
+use Rattle.channel.specs.Calls.{outside, armedOf, disarmedOf, mainTaken}
 use Rattle.channel.specs.OneChannel.{ChannelCall, OneChannel, oneChannel, then, lengthRefusal, refusalOf, effect, transition, transitions, mainRead, withUser, withChannel, withReadbacks, userRefusal}
 use Rattle.channel.specs.OneChannel as call
 use Rattle.channel.proofs.Cases.{clash, passed, either}

@@ -12,7 +12,7 @@ use Rattle.registers.specs.Map as reg
 use Rattle.channel_core.specs.declared.Channel.{Channel}
 use Rattle.channel_core.specs.Answers.{Answer, value}
 use Rattle.channel_core.specs.Behaviour.{endedIf, groupEnded, eventOf, commanded}
-use Rattle.channel.specs.Calls.{registerEffect, readValue}
+use Rattle.channel_registers.specs.Calls.{registerEffect, readValue}
 use Rattle.channel.specs.OneChannel.{ChannelCall, OneChannel, oneChannel, refusalOf, effect, answer, transition, response, transitions, readRegister}
 use Rattle.channel.specs.OneChannel as call
 use Rattle.histories.specs.History.{entry, history, asks, endsGroup, framesSince}

@@ -10,7 +10,7 @@ use Rattle.status.proofs.Laws.{word-bit}
 use Rattle.register_map.specs.AccessRule.{channelAccess}
 use Rattle.channel_core.specs.Answers.{value}
 use Rattle.channel_core.specs.State as state
-use Rattle.channel.specs.Calls.{readValue}
+use Rattle.channel_registers.specs.Calls.{readValue}
 use Rattle.channel.specs.OneChannel.{OneChannel, oneChannel, refusalOf, answer, response, transitions, readRegister}
 use Rattle.histories.specs.Statuses.{isCondition, isEnable, ReadsOnly, RestReadsZero}
 use Rattle.histories.specs.Ranges.{BitsInRange, StatusInRange}

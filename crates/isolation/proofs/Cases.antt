@@ -11,8 +11,7 @@ use borrow.Author.Tests.{le-ltb}
 use Rattle.address_map.specs.Addresses.{named, channel}
 use Rattle.channel_core.specs.declared.Channel.{Channel}
 use Rattle.channel_core.specs.State.{opened}
-use Rattle.channel_core.specs.Answers.{Answer, isRefusal}
-use Rattle.channel.specs.Calls.{unless}
+use Rattle.channel_core.specs.Answers.{Answer, isRefusal, unless}
 use Rattle.board_state.specs.declared.Board.{Board}
 use Rattle.board_state.specs.State.{channelAt, withChannelAt, withChannels}
 use Rattle.board_state.specs.Lending.{noChannel}

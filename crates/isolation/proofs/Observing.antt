@@ -10,9 +10,9 @@ use borrow.Author.Tests.{eqb-true}
 use Rattle.address_map.specs.Addresses.{named, main, channel}
 use Rattle.register_map.specs.AccessRule.{mainAccess}
 use Rattle.register_map.specs.AccessRefusals.{readRefusal, writeRefusal}
-use Rattle.channel_core.specs.Answers.{Answer, isRefusal}
+use Rattle.channel_core.specs.Answers.{Answer, isRefusal, unless}
 use Rattle.channel_core.specs.Answers as ans
-use Rattle.channel.specs.Calls.{unless}
+use Rattle.channel_registers.specs.Calls as channel-registers
 use Rattle.channel.specs.Calls as chn
 use Rattle.channel.specs.OneChannel.{Query, response, refusalOf, answer, retiredOf, userRefusal, mainAnswer}
 use Rattle.channel.specs.OneChannel as to
@@ -64,7 +64,7 @@ module _ (w : World) (c : ℕ) (h : Number c) where
 
   pub observe-read : (a o : ℕ) (l : Lent) → named a ≡ channel c o
       → answerFor c (wld.answer (w .board) (readRegister a) l) ≡ response (view c w) (to.readRegister o)
-  unfolding wld.answer registers.readAnswer chn.readAnswer response refusalOf answer
+  unfolding wld.answer registers.readAnswer channel-registers.readAnswer response refusalOf answer
   observe-read a o l e = rw e
 
   pub observe-setpoint : (u f i x : ℕ) (l : Lent)

@@ -11,11 +11,13 @@ use Rattle.register_map.specs.AccessRefusals.{readRefusal, writeRefusal}
 use Rattle.sequencer.specs.declared.Transmission.{Transmission}
 use Rattle.sequencer.specs.declared.Transmission.the-variants as transmission
 use Rattle.channel_core.specs.declared.Channel.{Channel}
-use Rattle.channel_core.specs.Answers.{Answer, isRefusal}
+use Rattle.channel_core.specs.Answers.{Answer, isRefusal, unless}
 use Rattle.channel_core.specs.Answers as ans
 use Rattle.channel_core.specs.Behaviour.{sendFrame, playedOf, replyAnswerAs, replyAs, replyWordsAs}
 use Rattle.channel_core.specs.Behaviour as core
-use Rattle.channel.specs.Calls.{unless, registerRefusal, setpointRefusal}
+use Rattle.channel_registers.specs.Calls.{registerRefusal}
+use Rattle.channel_registers.specs.Calls as channel-registers
+use Rattle.channel.specs.Calls.{setpointRefusal}
 use Rattle.channel.specs.Calls as chn
 use Rattle.channel.specs.OneChannel.{OneChannel, Query, ChannelCall, withChannel, withSetpoints, withReadbacks, refusalOf, effect, answer, transition, response, transitions, responses, then, lengthRefusal, framingRefusal, mainAnswer}
 use Rattle.channel.specs.OneChannel as to
@@ -70,14 +72,14 @@ module _ (o : OneChannel) where
   module _ (k : ℕ) (fit : eqb k (o .m * 8) ≡ true) where
     pub transition-write : (x v : ℕ)
         → transition o (to.writeRegister k x v)
-        ≡ withBoth o (chn.writtenOf (o .channel) x v) (chn.writtenWords (o .channel) (o .readbacks) (o .m) x v)
-    unfolding transition refusalOf effect chn.writtenOf chn.writtenWords
+        ≡ withBoth o (channel-registers.writtenOf (o .channel) x v) (channel-registers.writtenWords (o .channel) (o .readbacks) (o .m) x v)
+    unfolding transition refusalOf effect channel-registers.writtenOf channel-registers.writtenWords
     transition-write x v = rw fit (go (eqb (registerRefusal x v) 0))
       where
         go : (t : Bool)
-            → cond t (withBoth o (chn.registerEffect (o .channel) x v) (chn.registerWords (o .channel) (o .readbacks) (o .m) x v)) o
-            ≡ withBoth o (cond t (chn.registerEffect (o .channel) x v) (o .channel))
-            (cond t (chn.registerWords (o .channel) (o .readbacks) (o .m) x v) (o .readbacks))
+            → cond t (withBoth o (channel-registers.registerEffect (o .channel) x v) (channel-registers.registerWords (o .channel) (o .readbacks) (o .m) x v)) o
+            ≡ withBoth o (cond t (channel-registers.registerEffect (o .channel) x v) (o .channel))
+            (cond t (channel-registers.registerWords (o .channel) (o .readbacks) (o .m) x v) (o .readbacks))
         go true = refl
         go false = refl
 
@@ -116,13 +118,13 @@ module _ (o : OneChannel) where
     unfolding transition refusalOf effect
     transition-tick = rw fit
 
-  pub transition-read : (x : ℕ) → transition o (to.readRegister x) ≡ withChannel o (chn.readOf (o .channel) x)
-  unfolding transition refusalOf effect chn.readOf
+  pub transition-read : (x : ℕ) → transition o (to.readRegister x) ≡ withChannel o (channel-registers.readOf (o .channel) x)
+  unfolding transition refusalOf effect channel-registers.readOf
   transition-read x = go (eqb (readRefusal (channelAccess x)) 0)
     where
       go : (t : Bool)
-          → cond t (withChannel o (chn.readEffect (o .channel) x)) o
-          ≡ withChannel o (cond t (chn.readEffect (o .channel) x) (o .channel))
+          → cond t (withChannel o (channel-registers.readEffect (o .channel) x)) o
+          ≡ withChannel o (cond t (channel-registers.readEffect (o .channel) x) (o .channel))
       go true = refl
       go false = refl
 
@@ -146,8 +148,8 @@ module _ (o : OneChannel) where
       go true = refl
       go false = refl
 
-  pub response-write : (k x v : ℕ) → response o (to.writeRegister k x v) ≡ cond (eqb k (o .m * 8)) (chn.writtenAnswer x v) sizeMismatch
-  unfolding response refusalOf answer chn.writtenAnswer
+  pub response-write : (k x v : ℕ) → response o (to.writeRegister k x v) ≡ cond (eqb k (o .m * 8)) (channel-registers.writtenAnswer x v) sizeMismatch
+  unfolding response refusalOf answer channel-registers.writtenAnswer
   response-write k x v = fit-first k (o .m * 8) (registerRefusal x v) ans.done
 
   pub response-setpoint : (k u f i x : ℕ)

@@ -10,6 +10,7 @@ use lib.Dec.{eqb}
 use borrow.Author.Tests.{eqb-true, eq-eqb, ne-eqb}
 use Rattle.address_map.specs.Addresses.{Named, named, main, channel, nothing}
 use Rattle.channel_core.specs.Behaviour as core
+use Rattle.channel_registers.specs.Calls as channel-registers
 use Rattle.channel.specs.Calls as chn
 use Rattle.channel.specs.OneChannel.{withChannel, withSetpoints}
 use Rattle.channel.specs.OneChannel as to
@@ -49,7 +50,7 @@ module _ (w : World) (c : ℕ) (h : Number c) (d : ℕ) (ne : c ≡ d → ⊥) w
       words =
           ap (λ (r : List ℕ). own r (w .board .m * 2) c) (writes-over (w .board) (w .readbacks) d a o v e (named-number a d o e))
           ∙ over-theirs (w .readbacks) (w .board .m * 8) (w .board .m * 2) d
-          (λ (p : List ℕ). chn.writtenWords (channelAt (w .board) d) p (w .board .m) o v) (parted-reads (w .board))
+          (λ (p : List ℕ). channel-registers.writtenWords (channelAt (w .board) d) p (w .board .m) o v) (parted-reads (w .board))
           (λ p. written-length (channelAt (w .board) d) p (w .board .m) o v) c h ne
 
   pub other-read : (a o : ℕ) → named a ≡ channel d o → view c (plain w (readRegister a)) ≡ view c w

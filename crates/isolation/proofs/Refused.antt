@@ -16,7 +16,9 @@ use Rattle.channel_core.specs.Answers.{isRefusal}
 use Rattle.channel_core.specs.Answers as ans
 use Rattle.channel_core.specs.Behaviour.{dispositionNow, receiptAnswer, replyAnswerAs, replyAs, replyWordsAs}
 use Rattle.channel_core.specs.Behaviour as core
-use Rattle.channel.specs.Calls.{registerRefusal, setpointRefusal}
+use Rattle.channel_registers.specs.Calls.{registerRefusal}
+use Rattle.channel_registers.specs.Calls as channel-registers
+use Rattle.channel.specs.Calls.{setpointRefusal}
 use Rattle.channel.specs.Calls as chn
 use Rattle.channel.specs.OneChannel.{userRefusal}
 use Rattle.channel.proofs.Cases.{clash, by-test}
@@ -42,17 +44,17 @@ disposition-none disposition.Lost = refl
 disposition-none disposition.Kept = refl
 
 module _ (c : Channel) where
-  written-still : (o v : ℕ) → isRefusal (chn.writtenAnswer o v) ≡ true → chn.writtenOf c o v ≡ c
-  unfolding chn.writtenAnswer chn.writtenOf
+  written-still : (o v : ℕ) → isRefusal (channel-registers.writtenAnswer o v) ≡ true → channel-registers.writtenOf c o v ≡ c
+  unfolding channel-registers.writtenAnswer channel-registers.writtenOf
   written-still o v h = rw (unless-refused (registerRefusal o v) ans.done refl h)
 
-  written-words : (s : List ℕ) (m o v : ℕ) → isRefusal (chn.writtenAnswer o v) ≡ true → chn.writtenWords c s m o v ≡ s
-  unfolding chn.writtenAnswer chn.writtenWords
+  written-words : (s : List ℕ) (m o v : ℕ) → isRefusal (channel-registers.writtenAnswer o v) ≡ true → channel-registers.writtenWords c s m o v ≡ s
+  unfolding channel-registers.writtenAnswer channel-registers.writtenWords
   written-words s m o v h = rw (unless-refused (registerRefusal o v) ans.done refl h)
 
-  read-still : (o : ℕ) → isRefusal (chn.readAnswer c o) ≡ true → chn.readOf c o ≡ c
-  unfolding chn.readAnswer chn.readOf
-  read-still o h = rw (unless-refused (readRefusal (channelAccess o)) (ans.value (chn.readValue c o)) refl h)
+  read-still : (o : ℕ) → isRefusal (channel-registers.readAnswer c o) ≡ true → channel-registers.readOf c o ≡ c
+  unfolding channel-registers.readAnswer channel-registers.readOf
+  read-still o h = rw (unless-refused (readRefusal (channelAccess o)) (ans.value (channel-registers.readValue c o)) refl h)
 
   setpoint-words : (s : List ℕ) (n u b i x : ℕ) → isRefusal (chn.setpointAnswer c n u b i) ≡ true → chn.setpointWords c s n u b i x ≡ s
   unfolding chn.setpointAnswer chn.setpointWords

@@ -10,6 +10,7 @@ use Rattle.address_map.specs.Addresses.{Named, named, main, channel, nothing}
 use Rattle.register_map.specs.AccessRule.{mainAccess}
 use Rattle.register_map.specs.AccessRefusals.{readRefusal, writeRefusal}
 use Rattle.channel_core.specs.Behaviour as core
+use Rattle.channel_registers.specs.Calls as channel-registers
 use Rattle.channel.specs.Calls as chn
 use Rattle.channel.specs.OneChannel.{userRefusal}
 use Rattle.channel.proofs.Cases.{either}
@@ -94,7 +95,7 @@ module _ (b : Board) (s : List ℕ) where
       go (main o) e = rw e (either (SameLength s) (readbacksFit b (length s)) refl refl)
       go (channel d o) e =
           ap length (writes-over b s d a o v e (named-number a d o e))
-          ∙ over-length s (b .m * 8) (b .m * 2) d (λ (p : List ℕ). chn.writtenWords (channelAt b d) p (b .m) o v) (parted-reads b)
+          ∙ over-length s (b .m * 8) (b .m * 2) d (λ (p : List ℕ). channel-registers.writtenWords (channelAt b d) p (b .m) o v) (parted-reads b)
           (λ p. written-length (channelAt b d) p (b .m) o v)
       go nothing e = rw e (either (SameLength s) (readbacksFit b (length s)) refl refl)
 

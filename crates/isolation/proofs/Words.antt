@@ -8,6 +8,7 @@ use lib.Dec.{eqb}
 use borrow.Author.Tests.{eq-eqb, eqb-true}
 use Rattle.address_map.specs.Addresses.{named, channel}
 use Rattle.channel_core.specs.Behaviour as core
+use Rattle.channel_registers.specs.Calls as channel-registers
 use Rattle.channel.specs.Calls as chn
 use Rattle.channel.proofs.Cases.{by-test}
 use Rattle.histories.proofs.Lengths.{SameLength}
@@ -74,6 +75,6 @@ module _ (b : Board) (s : List ℕ) (d : ℕ) where
 
   pub writes-over : (a o v : ℕ) → named a ≡ channel d o → Number d
       → registers.writeWords b s a v
-      ≡ over s (b .m * 8) (b .m * 2) d (λ (p : List ℕ). chn.writtenWords (channelAt b d) p (b .m) o v)
+      ≡ over s (b .m * 8) (b .m * 2) d (λ (p : List ℕ). channel-registers.writtenWords (channelAt b d) p (b .m) o v)
   unfolding registers.writeWords
   writes-over a o v e h = rw (e, in-range d h)

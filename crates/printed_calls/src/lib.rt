@@ -3,10 +3,10 @@ use board_state::Board;
 use board_state::Written;
 use call_script::lent;
 use call_script::pool;
-use channel::Outcome;
 use channel::PartLength;
-use channel::ReadOutcome;
+use channel_core::Outcome;
 use channel_core::Receipt;
+use channel_registers::ReadOutcome;
 use output::Block;
 use refusal::Refusal;
 

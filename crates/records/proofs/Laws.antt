@@ -9,8 +9,8 @@ use lib.ListN.{length, take, drop, length-take, length-drop, take-append-drop}
 use lib.Seq.{drop-drop}
 use lib.Dec.{eqb}
 use borrow.Author.Tests.{eqb-true, le-ltb}
+use Rattle.channel_core.specs.Answers.{unless}
 use Rattle.channel_core.specs.Answers as ans
-use Rattle.channel.specs.Calls.{unless}
 use Rattle.records.specs.Files.{distance, count, fileRefusal, recordsPart, recordsLength}
 use Rattle.records.specs.Requests.{setpoint, setpointAsked}
 use Rattle.records.proofs.Trailers.{whole}

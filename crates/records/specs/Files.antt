@@ -6,9 +6,8 @@ use lib.ListN.{length, take, drop}
 use lib.Dec.{eqb, ltb}
 use Rattle.refusal.specs.Refusals.{numberOf}
 use Rattle.refusal.specs.declared.Refusal.the-variants as refusal
-use Rattle.channel_core.specs.Answers.{Answer}
+use Rattle.channel_core.specs.Answers.{Answer, unless}
 use Rattle.channel_core.specs.Answers as ans
-use Rattle.channel.specs.Calls.{unless}
 use Rattle.little_endian.specs.Numbers.{number32}
 
 -- "a trailer of two 32-bit little-endian numbers: distance back from the file's end to the first record, and record count"

@@ -1,13 +1,13 @@
 // What one record of a run file does: the board's own calls, and their answers counted.
 use board_state::Board;
 use board_state::Written;
-use channel::Outcome;
+use channel_core::Outcome;
 use records::Request;
 use refusal::Refusal;
 use tally::Counts;
 ghost use mathlib.Core.Path.{_≡_};
 ghost use lib.ListN.{length};
-ghost use Rattle.channel.specs.Answers.{outcomeOf};
+ghost use Rattle.channel_core.specs.Answers.{outcomeOf};
 ghost use Rattle.board.specs.Answers.{one};
 ghost use Rattle.board.specs.Calls.{eventBoard, eventAnswer, eventWords, userBoard, userAnswer};
 ghost use Rattle.board_channels.specs.Calls.{setpointAnswer, setpointWords, armBoard, disarmBoard, armAnswer, replyBoard, replyAnswer, replyWords};

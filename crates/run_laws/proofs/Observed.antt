@@ -13,10 +13,10 @@ use Rattle.frame.specs.Frames as frame
 use Rattle.readback.specs.declared.Disposition.{Disposition}
 use Rattle.readback.specs.declared.Disposition.the-variants as disposition
 use Rattle.channel_core.specs.declared.Channel.{Channel}
-use Rattle.channel_core.specs.Answers.{Answer, isRefusal, isFrame}
+use Rattle.channel_core.specs.Answers.{Answer, isRefusal, isFrame, unless}
 use Rattle.channel_core.specs.Answers as ans
 use Rattle.channel_core.specs.Behaviour.{receiptAnswer, dispositionNow, replyAnswerAs, replyAnswer}
-use Rattle.channel.specs.Calls.{unless}
+use Rattle.channel_registers.specs.Calls as channel-registers
 use Rattle.channel.specs.Calls as chn
 use Rattle.channel.specs.OneChannel.{Query, userRefusal}
 use Rattle.channel.specs.OneChannel as to
@@ -55,15 +55,15 @@ reading-quiet (frame.fields id word aux crc) c m = receipt-quiet (dispositionNow
 
 module _ (b : Board) where
   write-at : (n : Named) (v : ℕ) → Quiet (writeAnswerAt n v)
-  unfolding chn.writtenAnswer
+  unfolding channel-registers.writtenAnswer
   write-at (main o) v = unless-quiet (writeRefusal (mainAccess o)) ans.done (record { quiet = refl })
-  write-at (channel d o) v = unless-quiet (chn.registerRefusal o v) ans.done (record { quiet = refl })
+  write-at (channel d o) v = unless-quiet (channel-registers.registerRefusal o v) ans.done (record { quiet = refl })
   write-at nothing v = record { quiet = refl }
 
   read-at : (n : Named) → Quiet (readAnswerAt n b)
-  unfolding chn.readAnswer
+  unfolding channel-registers.readAnswer
   read-at (main o) = unless-quiet (readRefusal (mainAccess o)) (ans.value (mainValue b o)) (record { quiet = refl })
-  read-at (channel d o) = unless-quiet (readRefusal (channelAccess o)) (ans.value (chn.readValue (channelAt b d) o)) (record { quiet = refl })
+  read-at (channel d o) = unless-quiet (readRefusal (channelAccess o)) (ans.value (channel-registers.readValue (channelAt b d) o)) (record { quiet = refl })
   read-at nothing = record { quiet = refl }
 
   setpoint-quiet : (k d u f i : ℕ) → Quiet (channels.setpointAnswer b k d u f i)

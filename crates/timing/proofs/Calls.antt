@@ -14,7 +14,7 @@ use Rattle.sequencer.proofs.Moves.{resume-ignored}
 use Rattle.channel_core.specs.declared.Channel.{Channel}
 use Rattle.channel_core.specs.State.{withSequencer}
 use Rattle.channel_core.specs.Behaviour.{started, groupEnded, endedIf, startedIf, resumedIf, resumedOn, eventOf, eventWords, commanded, commandWords}
-use Rattle.channel.specs.Calls.{registerRefusal, registerEffect, registerWords}
+use Rattle.channel_registers.specs.Calls.{registerRefusal, registerEffect, registerWords}
 use Rattle.channel.specs.OneChannel.{OneChannel, refusalOf, effect, transition, withChannel, withReadbacks}
 use Rattle.channel.proofs.Cases.{clash}
 use Rattle.histories.proofs.Leaves.{leaves-event, leaves-command}

@@ -1,14 +1,14 @@
--- `channel::write_check` meets its contract: refused by the access of the offset, then by the clock code. Assumes nothing.
+-- `channel_registers::write_check` meets its contract: refused by the access of the offset, then by the clock code. Assumes nothing.
 use Rattle.refusal.proofs.Laws.{refuses}
-use Rattle.channel.specs.Calls.{registerRefusal}
+use Rattle.channel_registers.specs.Calls.{registerRefusal}
 use borrow.Author.Tests.{lt-ltb, le-ltb, eq-eqb, ne-eqb}
 use mathlib.Core.Path.{_≡_, ap, _∙_}
 use Rattle.register_map.specs.AccessRule.{channelAccess}
 use Rattle.register_map.specs.AccessRefusals.{writeRefusal}
 use Rattle.refusal.specs.Refusals.{verdictNumber}
 use borrow.Author.Needs.{needs}
-use Rattle.channel.proofs.write_check.Statement.{statement}
-use Rattle.channel.proofs.write_check.Tie as tie
+use Rattle.channel_registers.proofs.write_check.Statement.{statement}
+use Rattle.channel_registers.proofs.write_check.Tie as tie
 
 -- the verdict, said of the offset
 verdict :

@@ -1,9 +1,9 @@
--- `channel::read_value` meets its contract: Interrupt Enable, the two statuses, and the other registers as loaded. Assumes nothing.
-use Rattle.channel.specs.Calls.{readValue}
+-- `channel_registers::read_value` meets its contract: Interrupt Enable, the two statuses, and the other registers as loaded. Assumes nothing.
+use Rattle.channel_registers.specs.Calls.{readValue}
 use borrow.Author.Tests.{eq-eqb, ne-eqb}
 use borrow.Author.Needs.{needs}
-use Rattle.channel.proofs.read_value.Statement.{statement}
-use Rattle.channel.proofs.read_value.Tie as tie
+use Rattle.channel_registers.proofs.read_value.Statement.{statement}
+use Rattle.channel_registers.proofs.read_value.Tie as tie
 
 returns : tie.Need-returns
 unfolding readValue

@@ -1,9 +1,9 @@
--- `channel::read_effect` meets its contract: a read of 02 or of 04 clears that copy, and any other nothing. Assumes nothing.
-use Rattle.channel.specs.Calls.{readEffect}
+-- `channel_registers::read_effect` meets its contract: a read of 02 or of 04 clears that copy, and any other nothing. Assumes nothing.
+use Rattle.channel_registers.specs.Calls.{readEffect}
 use borrow.Author.Tests.{eq-eqb, ne-eqb}
 use borrow.Author.Needs.{needs}
-use Rattle.channel.proofs.read_effect.Statement.{statement}
-use Rattle.channel.proofs.read_effect.Tie as tie
+use Rattle.channel_registers.proofs.read_effect.Statement.{statement}
+use Rattle.channel_registers.proofs.read_effect.Tie as tie
 
 cleared-requires : tie.Need-cleared-requires
 cleared-requires c κs = search needs

@@ -1,9 +1,9 @@
--- `channel::write_effect` meets its contract: Interrupt Enable, Reset and Commands act, and any other register holds the value. Assumes nothing.
-use Rattle.channel.specs.Calls.{registerEffect, registerWords}
+-- `channel_registers::write_effect` meets its contract: Interrupt Enable, Reset and Commands act, and any other register holds the value. Assumes nothing.
+use Rattle.channel_registers.specs.Calls.{registerEffect, registerWords}
 use borrow.Author.Tests.{eq-eqb, ne-eqb}
 use borrow.Author.Needs.{needs}
-use Rattle.channel.proofs.write_effect.Statement.{statement}
-use Rattle.channel.proofs.write_effect.Tie as tie
+use Rattle.channel_registers.proofs.write_effect.Statement.{statement}
+use Rattle.channel_registers.proofs.write_effect.Tie as tie
 
 enabled-requires : tie.Need-enabled-requires
 enabled-requires c κs = search needs

@@ -1,13 +1,13 @@
--- `channel::read_register` meets its contract: refused by the access of the offset, and else the value, with what the read clears. Assumes nothing.
+-- `channel_registers::read_register` meets its contract: refused by the access of the offset, and else the value, with what the read clears. Assumes nothing.
 use Rattle.refusal.proofs.Laws.{refuses}
-use Rattle.channel.specs.Calls.{readOf, readAnswer}
+use Rattle.channel_registers.specs.Calls.{readOf, readAnswer}
 use mathlib.Core.Path.{_≡_, ap, _∙_}
 use Rattle.register_map.specs.AccessRule.{channelAccess}
 use Rattle.register_map.specs.AccessRefusals.{readRefusal}
 use Rattle.refusal.specs.Refusals.{verdictNumber}
 use borrow.Author.Needs.{needs}
-use Rattle.channel.proofs.read_register.Statement.{statement}
-use Rattle.channel.proofs.read_register.Tie as tie
+use Rattle.channel_registers.proofs.read_register.Statement.{statement}
+use Rattle.channel_registers.proofs.read_register.Tie as tie
 
 -- the verdict, said of the offset
 verdict :

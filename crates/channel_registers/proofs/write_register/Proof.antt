@@ -1,9 +1,9 @@
--- `channel::write_register` meets its contract: refused by the check, and else what the write does. Assumes nothing.
+-- `channel_registers::write_register` meets its contract: refused by the check, and else what the write does. Assumes nothing.
 use Rattle.refusal.proofs.Laws.{refuses}
-use Rattle.channel.specs.Calls.{writtenOf, writtenAnswer, writtenWords}
+use Rattle.channel_registers.specs.Calls.{writtenOf, writtenAnswer, writtenWords}
 use borrow.Author.Needs.{needs}
-use Rattle.channel.proofs.write_register.Statement.{statement}
-use Rattle.channel.proofs.write_register.Tie as tie
+use Rattle.channel_registers.proofs.write_register.Statement.{statement}
+use Rattle.channel_registers.proofs.write_register.Tie as tie
 
 write-check-requires : tie.Need-write-check-requires
 write-check-requires c κs = search needs
