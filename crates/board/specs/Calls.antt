@@ -16,7 +16,7 @@ use Rattle.channel.specs.OneChannel.{userRefusal}
 use Rattle.board_state.specs.declared.Board.{Board}
 use Rattle.board_state.specs.State.{opened, channelAt, withChannelAt, withUser, eventCame}
 use Rattle.board_state.specs.Parts.{own, withOwn}
-use Rattle.board_state.specs.Lending.{setpointSize, readbackSize, setpointsFit, readbacksFit, sizeMismatch}
+use Rattle.board_state.specs.Checks.{setpointSize, readbackSize, setpointsFit, readbacksFit, sizeMismatch}
 use Rattle.board.specs.Answers.{BoardAnswer}
 use Rattle.board.specs.Answers as answers
 

@@ -9,7 +9,7 @@ ghost use Prim.Native.Nat.{_*_, _≤_};
 ghost use lib.ListN.{length};
 ghost use Rattle.channel_core.specs.Answers.{lineOf, outcomeOf};
 ghost use Rattle.board_state.specs.Main.{levelOf};
-ghost use Rattle.board_state.specs.Lending.{sizeMismatch};
+ghost use Rattle.board_state.specs.Checks.{sizeMismatch};
 ghost use Rattle.board.specs.Answers.{framesOf};
 ghost use Rattle.board.specs.Calls.{closed, openBoard, openAnswer, tickChannel, tickFrame, tickBoard, tickBoardAnswer, eventBoardAt, eventWordsAt, eventBoard, eventAnswer, eventWords, changedAt, userBoard, userAnswer};
 

@@ -7,7 +7,7 @@ use lib.ListN.{length}
 use lib.Dec.{eqb}
 use Rattle.channel.specs.Calls as one
 use Rattle.board_state.specs.declared.Board.{Board}
-use Rattle.board_state.specs.Lending.{noChannel}
+use Rattle.board_state.specs.Checks.{noChannel}
 use Rattle.board_channels.specs.Calls.{retiredWords, retiredAnswer, partOf}
 
 pub retired-part : (b : Board) (number : ℕ) (s t : List ℕ) → partOf (retiredAnswer b number s t) ≡ retiredWords b number s t

@@ -14,7 +14,7 @@ use Rattle.channel.specs.Calls as one
 use Rattle.board_state.specs.declared.Board.{Board}
 use Rattle.board_state.specs.State.{channelAt, withChannelAt}
 use Rattle.board_state.specs.Parts.{own, withOwn}
-use Rattle.board_state.specs.Lending.{setpointSize, readbackSize, setpointsFit, readbacksFit, sizeMismatch, outOfRange, noChannel}
+use Rattle.board_state.specs.Checks.{setpointSize, readbackSize, setpointsFit, readbacksFit, sizeMismatch, outOfRange, noChannel}
 
 -- ---- Setpoint write
 

@@ -17,7 +17,7 @@ use Rattle.board_state.specs.declared.Board.{Board}
 use Rattle.board_state.specs.State.{channelAt, withChannelAt}
 use Rattle.board_state.specs.Main.{mainWritten, mainValue, mainRead}
 use Rattle.board_state.specs.Parts.{own, withOwn}
-use Rattle.board_state.specs.Lending.{readbackSize, readbacksFit, sizeMismatch}
+use Rattle.board_state.specs.Checks.{readbackSize, readbacksFit, sizeMismatch}
 
 -- refused 3
 abbrev pub unmapped : Answer

@@ -15,7 +15,7 @@ ghost use Rattle.channel_registers.specs.Calls.{writtenOf, writtenAnswer, writt
 ghost use Rattle.address_map.specs.Addresses.{main, channel};
 ghost use Rattle.board_state.specs.State.{channelAt, withChannelAt};
 ghost use Rattle.board_state.specs.Parts.{own, withOwn};
-ghost use Rattle.board_state.specs.Lending.{readbackSize};
+ghost use Rattle.board_state.specs.Checks.{readbackSize};
 ghost use Rattle.board_registers.specs.Calls.{writeBoardAt, writeAnswerAt, writeBoard, writeAnswer, writeWords, readBoardAt, readAnswerAt, readBoard, readAnswer};
 
 pub struct Read {

@@ -1,4 +1,4 @@
 pub mod State
 pub mod Parts
 pub mod Main
-pub mod Lending
+pub mod Checks

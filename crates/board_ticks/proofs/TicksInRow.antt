@@ -16,7 +16,7 @@ use Rattle.sequencer.specs.Playing.{ticked}
 use Rattle.board_state.specs.declared.Board.{Board}
 use Rattle.board_state.specs.State.{channelAt, withChannelAt, withChannels}
 use Rattle.board_state.specs.Parts.{own}
-use Rattle.board_state.specs.Lending.{setpointSize, setpointsFit, sizeMismatch, noChannel}
+use Rattle.board_state.specs.Checks.{setpointSize, setpointsFit, sizeMismatch, noChannel}
 use Rattle.board.specs.Answers as answers
 use Rattle.board.specs.Calls.{tickChannel, tickFrame, tickBoard, tickBoardAnswer}
 use Rattle.board_ticks.specs.Ticks.{channelTicks, channelFrames, channelFramesAt, ticksBoard, ticksFrames, ticksFramesAt, quietTicks}

@@ -10,7 +10,7 @@ use Rattle.channel_ticks.specs.Ticks.{ticksOf, framesIn, framesAt}
 use Rattle.board_state.specs.declared.Board.{Board}
 use Rattle.board_state.specs.State.{channelAt, withChannelAt}
 use Rattle.board_state.specs.Parts.{own}
-use Rattle.board_state.specs.Lending.{setpointSize, setpointsFit, noChannel}
+use Rattle.board_state.specs.Checks.{setpointSize, setpointsFit, noChannel}
 
 -- of k ticks, where they are not refused: a channel after them, how many answer a frame of it, and a list with these frames, each at the place
 -- of its tick, the first tick's at 0

@@ -20,13 +20,13 @@ pub fn is_of_setpoints(record: Record) -> bool {
 }
 
 // One fewer, and 0 for 0.
-fn one_fewer(x: usize) -> usize
-    ensures { λ r. ⌜ r ≤ x ⌝ }
+fn one_fewer(count: usize) -> usize
+    ensures { λ r. ⌜ r ≤ count ⌝ }
 {
-    if x == 0 {
+    if count == 0 {
         return 0;
     }
-    x - 1
+    count - 1
 }
 
 // How many words a lent code stands for, by the right length.

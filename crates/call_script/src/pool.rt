@@ -9,10 +9,10 @@ pub struct Span {
     pub length: usize,
 }
 
-fn least(a: usize, b: usize) -> usize
-    ensures { λ r. ⌜ (r ≤ a) × (r ≤ b) ⌝ }
+fn least(one: usize, other: usize) -> usize
+    ensures { λ r. ⌜ (r ≤ one) × (r ≤ other) ⌝ }
 {
-    if a < b { a } else { b }
+    if one < other { one } else { other }
 }
 
 // As many words as asked for, or all that there are. The contract is what lending `&words[..r]` asks.
@@ -40,10 +40,10 @@ pub fn part<'a>(pool: &'a [u32], span: Span) -> &'a [u32] {
 }
 
 // One step of xorshift32.
-fn xorshifted(s: u32) -> u32
-    ensures { λ r. ⌜ r ≡ xorshift s ⌝ }
+fn xorshifted(seed: u32) -> u32
+    ensures { λ r. ⌜ r ≡ xorshift seed ⌝ }
 {
-    let first = s ^ (s % 0x8_0000 * 0x2000);
+    let first = seed ^ (seed % 0x8_0000 * 0x2000);
     let second = first ^ (first / 0x2_0000);
     second ^ (second % 0x800_0000 * 0x20)
 }
@@ -78,12 +78,12 @@ pub fn fill(setpoints: &mut [u32], readbacks: &mut [u32], seed: u32, mask: u32) 
 const OFFSET: u64 = 0xcbf2_9ce4_8422_2325;
 
 // A number times FNV's prime, 2^40 + 435, in 64 bits.
-fn times_prime(x: u64) -> u64
-    ensures { λ r. ⌜ r ≡ timesPrime x ⌝ }
+fn times_prime(number: u64) -> u64
+    ensures { λ r. ⌜ r ≡ timesPrime number ⌝ }
 {
-    let low = x % 0x1_0000_0000 * 435;
-    let high = x / 0x1_0000_0000 * 435 % 0x1_0000_0000 * 0x1_0000_0000;
-    let top = x % 0x100_0000 * 0x100_0000_0000;
+    let low = number % 0x1_0000_0000 * 435;
+    let high = number / 0x1_0000_0000 * 435 % 0x1_0000_0000 * 0x1_0000_0000;
+    let top = number % 0x100_0000 * 0x100_0000_0000;
     std::num::wrapping_add_u64(std::num::wrapping_add_u64(low, high), top)
 }
 

@@ -21,7 +21,8 @@ use Rattle.channel_core.specs.Behaviour.{userChanged, eventOf, eventWords, tick
 use Rattle.channel_registers.specs.Calls.{registerRefusal, registerEffect, registerWords, readEffect, readValue}
 use Rattle.channel.specs.Calls.{outside, setpointRefusal, setpointWords, armedOf, disarmedOf, retiredRefusal, mainBit, mainTaken}
 
--- the calls that name the channel and change nothing. One more is a case here, and its refusal and its answer (`queryRefusal`, `queryAnswer`).
+-- the calls that name the channel and change nothing in any state; a register read may, and stands by itself. One more is a case here, with its
+-- refusal and its answer (`queryRefusal`, `queryAnswer`).
 pub data Query : Type 0 where
   -- retired readbacks, and what document 01 calls its twin
   retired : Query

@@ -24,13 +24,13 @@ pub struct MainRead {
 }
 
 // Whether a number lies outside a range.
-pub fn is_outside(low: u32, high: u32, x: u32) -> bool
-    ensures { λ r. ⌜ r ≡ outside low high x ⌝ }
+pub fn is_outside(low: u32, high: u32, number: u32) -> bool
+    ensures { λ r. ⌜ r ≡ outside low high number ⌝ }
 {
-    if x < low {
+    if number < low {
         return true;
     }
-    high < x
+    high < number
 }
 
 // The active one of a user's setpoint buffers, 1 or 2.

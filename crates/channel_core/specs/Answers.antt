@@ -13,7 +13,7 @@ use Rattle.channel_core.specs.declared.Line.the-variants as line
 use Rattle.channel_core.specs.declared.Outcome.{Outcome}
 use Rattle.channel_core.specs.declared.Outcome.the-variants as outcome
 
--- A new kind of result that no test below asks for is one more case of `Result`, and a name for it here.
+-- A new kind of result is a case of `Result`, and a name for it here, unless a definition by cases on an answer has to tell it from the others.
 pub data Answer : Type 0 where
   -- "A refusal returns its number alone."
   refused : (number : ℕ) → Answer
@@ -21,7 +21,7 @@ pub data Answer : Type 0 where
   value : ℕ → Answer
   -- a tick that sent: the channel's frame
   frame : ℕ → Answer
-  -- a reply that was received
+  -- a reply that counts among the six
   kept : Answer
   lost : Answer
   -- the words of a part, in order
@@ -70,7 +70,7 @@ abbrev pub outcomeOf : Outcome → Answer
 outcomeOf outcome.Done = done
 outcomeOf (outcome.Refused k) = refused (numberOf k)
 
--- ---- What is asked of an answer
+-- ---- Tests of an answer
 
 -- a refusal's number
 abbrev pub isRefusal : Answer → Bool

@@ -1,4 +1,4 @@
--- Document 01, 'Calls': the results that are told only as they are. No definition asks whether an answer is one of these.
+-- Document 01, 'Calls': the results that no definition by cases on an answer tells apart. Laws name them by equation.
 use Prim.Native.Nat.{ℕ}
 use mathlib.Core.Bool.{Bool}
 

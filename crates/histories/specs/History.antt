@@ -41,22 +41,22 @@ pub record Asks : Type 0 where
   pub reset : Bool
   -- "A user change to another user idles every channel"; "Disarm idles"
   pub idle : Bool
-  -- the word of a reply
+  -- the word that a reply brings
   pub word : List ℕ
 
--- none of these: whatever a call may do beside, it ends no group, resets and idles nothing and brings no word
+-- none of these: whatever else it does, the call ends no group, resets and idles nothing and brings no word
 abbrev pub asksNothing : Asks
 asksNothing = record { groupEnd = false; reset = false; idle = false; word = [] }
 
--- the same with one of these set
-abbrev pub asksGroupEnd : Bool → Asks
-asksGroupEnd on = record { groupEnd = on; reset = false; idle = false; word = [] }
+-- one of these alone
+abbrev pub groupEndIf : Bool → Asks
+groupEndIf on = record { groupEnd = on; reset = false; idle = false; word = [] }
 
-abbrev pub asksIdle : Bool → Asks
-asksIdle on = record { groupEnd = false; reset = false; idle = on; word = [] }
+abbrev pub idleIf : Bool → Asks
+idleIf on = record { groupEnd = false; reset = false; idle = on; word = [] }
 
-abbrev pub asksWord : List ℕ → Asks
-asksWord word = record { groupEnd = false; reset = false; idle = false; word = word }
+abbrev pub bringing : List ℕ → Asks
+bringing word = record { groupEnd = false; reset = false; idle = false; word = word }
 
 abbrev pub asks : OneChannel → ChannelCall → Asks
 asks o (call.writeRegister lent offset value) =
@@ -64,12 +64,12 @@ asks o (call.writeRegister lent offset value) =
 asks o (call.readRegister offset) = asksNothing
 asks o (call.writeSetpoint lent user buffer index word) = asksNothing
 asks o call.arm = asksNothing
-asks o call.disarm = asksIdle true
-asks o (call.reply lent f) = asksWord (replyWord o (read f))
+asks o call.disarm = idleIf true
+asks o (call.reply lent f) = bringing (replyWord o (read f))
 asks o (call.query which one two) = asksNothing
 asks o (call.tick lent) = asksNothing
-asks o (call.event lent code) = asksGroupEnd (triggersOf (o .channel .registers) groupEndEvent code)
-asks o (call.changeUser user) = asksIdle (not (eqb user (o .user)))
+asks o (call.event lent code) = groupEndIf (triggersOf (o .channel .registers) groupEndEvent code)
+asks o (call.changeUser user) = idleIf (not (eqb user (o .user)))
 asks o (call.writeMain lent offset value) = asksNothing
 asks o (call.readMain offset) = asksNothing
 

@@ -6,7 +6,7 @@ use mathlib.Core.List.{List, [], _∷_}
 use Rattle.channel_core.specs.Answers.{isFrame, isReceived}
 use Rattle.histories.specs.History.{Entry, endsGroup, resets, stops}
 
--- it idles the channel, though its event or command may then start it again: a Group End, a reset ("its opening state"), or one of these
+-- it idles the channel, though its event or command may then start it again: a Group End, a reset ("its opening state"), or a call that idles without either
 abbrev pub idles : Entry → Bool
 idles e = endsGroup e || (resets e || stops e)
 

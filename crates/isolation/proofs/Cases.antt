@@ -14,7 +14,7 @@ use Rattle.channel_core.specs.State.{opened}
 use Rattle.channel_core.specs.Answers.{Answer, isRefusal, unless}
 use Rattle.board_state.specs.declared.Board.{Board}
 use Rattle.board_state.specs.State.{channelAt, withChannelAt, withChannels}
-use Rattle.board_state.specs.Lending.{noChannel}
+use Rattle.board_state.specs.Checks.{noChannel}
 use Rattle.address_map.proofs.Laws.{named-channel}
 use Rattle.channel.proofs.Cases.{clash}
 use Rattle.channel.proofs.Ranges.{inside}

@@ -20,7 +20,7 @@ use Rattle.channel.proofs.Cases.{clash, either}
 use Rattle.board_state.specs.State.{channelAt}
 use Rattle.board_state.specs.Main.{mainValue}
 use Rattle.board.specs.Answers.{BoardAnswer, one, each, refuses}
-use Rattle.board_state.specs.Lending.{sizeMismatch, setpointsFit, readbacksFit}
+use Rattle.board_state.specs.Checks.{sizeMismatch, setpointsFit, readbacksFit}
 use Rattle.board.specs.Calls.{tickFrame}
 use Rattle.board.specs.Calls as board
 use Rattle.board_channels.specs.Calls as channels

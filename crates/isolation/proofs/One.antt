@@ -22,7 +22,7 @@ use Rattle.channel.specs.Calls as chn
 use Rattle.channel.specs.OneChannel.{OneChannel, Query, ChannelCall, withChannel, withSetpoints, withReadbacks, refusalOf, effect, answer, transition, response, transitions, responses, then, lengthRefusal, framingRefusal, mainAnswer}
 use Rattle.channel.specs.OneChannel as to
 use Rattle.channel.proofs.Cases.{clash, either}
-use Rattle.board_state.specs.Lending.{sizeMismatch}
+use Rattle.board_state.specs.Checks.{sizeMismatch}
 use Rattle.isolation.proofs.Refused.{reply-still, reply-words}
 
 -- the channel and its readbacks changed

@@ -19,7 +19,7 @@ use Rattle.histories.proofs.Lengths.{written-length, setpoint-length, reply-len
 use Rattle.board_state.specs.declared.Board.{Board}
 use Rattle.board_state.specs.State.{channelAt}
 use Rattle.board_state.specs.Parts.{own}
-use Rattle.board_state.specs.Lending.{noChannel, readbacksFit}
+use Rattle.board_state.specs.Checks.{noChannel, readbacksFit}
 use Rattle.board_registers.specs.Calls.{writeBoardAt, readBoardAt}
 use Rattle.board_channels.specs.Calls as channels
 use Rattle.board_registers.specs.Calls as registers

@@ -26,7 +26,7 @@ use Rattle.board_state.specs.declared.Board.{Board}
 use Rattle.board_state.specs.State.{channelAt, withChannelAt}
 use Rattle.board_state.specs.Main.{mainValue}
 use Rattle.board_state.specs.Parts.{own, withOwn}
-use Rattle.board_state.specs.Lending.{readbacksFit, setpointsFit, noChannel, readbackSize, setpointSize}
+use Rattle.board_state.specs.Checks.{readbacksFit, setpointsFit, noChannel, readbackSize, setpointSize}
 use Rattle.board_registers.specs.Calls.{writeBoardAt, writeAnswerAt, writeWordsAt, readBoardAt, readAnswerAt}
 use Rattle.board.specs.Calls as board
 use Rattle.board_channels.specs.Calls as channels

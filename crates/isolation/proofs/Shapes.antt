@@ -18,7 +18,7 @@ use Rattle.histories.proofs.Lengths.{SameLength, written-length, setpoint-lengt
 use Rattle.board_state.specs.declared.Board.{Board}
 use Rattle.board_state.specs.State.{channelAt}
 use Rattle.board_state.specs.Main.{mainWritten, mainRead, statusRead, takenAt}
-use Rattle.board_state.specs.Lending.{noChannel, setpointsFit, readbacksFit}
+use Rattle.board_state.specs.Checks.{noChannel, setpointsFit, readbacksFit}
 use Rattle.board.specs.Calls.{eventBoards, eventBoardAt, changedAt}
 use Rattle.board_registers.specs.Calls.{writeBoardAt, readBoardAt}
 use Rattle.board.specs.Calls as board

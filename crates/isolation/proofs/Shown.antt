@@ -11,7 +11,7 @@ use Rattle.channel.specs.OneChannel as to
 use Rattle.channel.proofs.Cases.{either}
 use Rattle.histories.proofs.Depths.{depths-kept}
 use Rattle.board_state.specs.declared.Board.{Board}
-use Rattle.board_state.specs.Lending.{setpointsFit}
+use Rattle.board_state.specs.Checks.{setpointsFit}
 use Rattle.board.specs.Calls.{tickBoardAnswer}
 use Rattle.board_channels.specs.Calls.{setpointAnswer}
 use Rattle.board_registers.specs.Calls.{readAnswer}

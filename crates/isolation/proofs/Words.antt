@@ -15,7 +15,7 @@ use Rattle.histories.proofs.Lengths.{SameLength}
 use Rattle.board_state.specs.declared.Board.{Board}
 use Rattle.board_state.specs.State.{channelAt}
 use Rattle.board_state.specs.Parts.{own, withOwn}
-use Rattle.board_state.specs.Lending.{noChannel}
+use Rattle.board_state.specs.Checks.{noChannel}
 use Rattle.board_channels.specs.Calls as channels
 use Rattle.board_registers.specs.Calls as registers
 use Rattle.isolation.proofs.Parts.{Number, own-length, own-mine, own-theirs, own-kept}

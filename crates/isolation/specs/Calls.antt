@@ -18,8 +18,8 @@ use Rattle.board.specs.Calls as board
 use Rattle.board_channels.specs.Calls as channels
 use Rattle.board_registers.specs.Calls as registers
 
--- "In the list stand the calls under Calls, the retired call's twin": a call's arguments alone. `query` are the calls that name a channel and
--- change nothing: retired readbacks and its twin
+-- "In the list stand the calls under Calls, the retired call's twin": a call's arguments alone. `query` are those that name a channel and
+-- change nothing in any state: retired readbacks and its twin
 pub data Call : Type 0 where
   writeRegister : (address value : ℕ) → Call
   readRegister : (address : ℕ) → Call
@@ -61,9 +61,9 @@ lengths (buffers s t) = length s ∷ (length t ∷ [])
 
 -- ---- What the contracts say of a call, refused or not: its answer, the board after it, the lent words after it
 
-abbrev pub queryAnswer : Board → ℕ → Query → Lent → Answer
-queryAnswer b number retired l = channels.retiredAnswer b number (first l) (second l)
-queryAnswer b number retiredLength l = channels.retiredLength b number (first l) (second l)
+abbrev pub queryAnswerAt : Board → ℕ → Query → Lent → Answer
+queryAnswerAt b number retired l = channels.retiredAnswer b number (first l) (second l)
+queryAnswerAt b number retiredLength l = channels.retiredLength b number (first l) (second l)
 
 unfoldable pub answer : Board → Call → Lent → BoardAnswer
 answer b (writeRegister address value) l = one (registers.writeAnswer b (length (first l)) address value)
@@ -73,7 +73,7 @@ answer b (writeSetpoint number user buffer index word) l =
 answer b (arm number) l = one (channels.armAnswer number)
 answer b (disarm number) l = one (channels.armAnswer number)
 answer b (reply number frame) l = one (channels.replyAnswer b (length (first l)) number frame)
-answer b (query number which) l = one (queryAnswer b number which l)
+answer b (query number which) l = one (queryAnswerAt b number which l)
 answer b tick l = board.tickBoardAnswer b (first l)
 answer b (event code) l = one (board.eventAnswer b (length (first l)))
 answer b (changeUser user) l = one (board.userAnswer user)

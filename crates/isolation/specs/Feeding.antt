@@ -24,7 +24,7 @@ only false a = []
 -- ---- Whom a call concerns
 
 pub data Scope : Type 0 where
-  -- it names a channel
+  -- it names a channel, by a number that may be out of range
   ofOne : (number : ℕ) → Scope
   -- shared: a tick, which answers each channel for itself
   ofEach : Scope
@@ -47,7 +47,7 @@ readScope (channel number offset) = ofOne number
 readScope nothing = ofNone
 
 -- "Naming a channel: register write, register read, setpoint write, arm, disarm, reply, retired readbacks." "Shared: tick (1 µs), event (8-bit
--- code), user change, Main register use, interrupt level.": of the last no channel is told
+-- code), user change, Main register use, interrupt level.", which "is fed to none"
 abbrev pub scope : Call → Scope
 scope (writeRegister address value) = writeScope (named address)
 scope (readRegister address) = readScope (named address)

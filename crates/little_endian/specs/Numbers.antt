@@ -3,7 +3,7 @@ use Prim.Native.Nat.{ℕ, zero, suc, _+_, _*_}
 use mathlib.Core.List.{List}
 use lib.ListN.{getD}
 
--- the number whose little-endian bytes stand at index i: so many, the lowest first
+-- the number whose little-endian bytes, so many as the first argument says, stand from index i on, the lowest first
 unfoldable pub numberAt : ℕ → List ℕ → ℕ → ℕ
 numberAt zero bytes i = 0
 numberAt (suc n) bytes i = getD bytes i 0 + 256 * numberAt n bytes (i + 1)

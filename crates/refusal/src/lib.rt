@@ -30,10 +30,10 @@ pub enum Verdict {
     Refused(Refusal),
 }
 
-pub fn number(r: Refusal) -> u8
-    ensures { λ n. ⌜ n ≡ numberOf r ⌝ }
+pub fn number(refusal: Refusal) -> u8
+    ensures { λ n. ⌜ n ≡ numberOf refusal ⌝ }
 {
-    match r {
+    match refusal {
         Refusal::SizeMismatch => 1,
         Refusal::OutOfRange => 2,
         Refusal::UnmappedRegister => 3,

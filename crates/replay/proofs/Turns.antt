@@ -8,7 +8,7 @@ use native.Mathlib.Numerals.{add-one}
 use Rattle.channel_ticks.specs.Ticks.{framesIn}
 use Rattle.board_state.specs.declared.Board.{Board}
 use Rattle.board.specs.Answers.{BoardAnswer}
-use Rattle.board_state.specs.Lending.{setpointsFit}
+use Rattle.board_state.specs.Checks.{setpointsFit}
 use Rattle.board.specs.Calls.{tickBoard, tickBoardAnswer}
 use Rattle.board_ticks.specs.Ticks.{channelFrames, ticksFrames, ticksBoard, ticksRefused}
 use Rattle.board_ticks.proofs.TicksInRow.{tick-refused, ticks-none, ticks-next, ticks-answer}

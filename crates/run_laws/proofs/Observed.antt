@@ -24,12 +24,12 @@ use Rattle.board_state.specs.declared.Board.{Board}
 use Rattle.board_state.specs.State.{channelAt}
 use Rattle.board_state.specs.Main.{mainValue}
 use Rattle.board.specs.Answers.{BoardAnswer, one}
-use Rattle.board_state.specs.Lending.{noChannel, setpointsFit, readbacksFit}
+use Rattle.board_state.specs.Checks.{noChannel, setpointsFit, readbacksFit}
 use Rattle.board_registers.specs.Calls.{readAnswerAt, writeAnswerAt}
 use Rattle.board.specs.Calls as board
 use Rattle.board_channels.specs.Calls as channels
 use Rattle.board_registers.specs.Calls as registers
-use Rattle.isolation.specs.Calls.{Call, writeRegister, readRegister, writeSetpoint, arm, disarm, reply, query, tick, event, changeUser, interruptLevel, Lent, first, second, queryAnswer, answer}
+use Rattle.isolation.specs.Calls.{Call, writeRegister, readRegister, writeSetpoint, arm, disarm, reply, query, tick, event, changeUser, interruptLevel, Lent, first, second, queryAnswerAt, answer}
 use Rattle.isolation.specs.Feeding.{only, Scope, ofOne, ofEach, ofMain, ofAll, ofNone, writeScope, readScope, answerFor, shared, sharedRead, observeIn, observe}
 use Rattle.channel.proofs.Cases.{by-test}
 use Rattle.tally.specs.Tallies.{sends}
@@ -106,7 +106,7 @@ observed-quiet c (ofMain o) a q =
 observed-quiet c ofAll a q = one-quiet (shared a) (by-test Quiet (isRefusal a) (λ t. q) (λ t. record { quiet = refl }))
 observed-quiet c ofNone a q = refl
 
-query-quiet : (b : Board) (d : ℕ) (q : Query) (l : Lent) → Quiet (queryAnswer b d q l)
+query-quiet : (b : Board) (d : ℕ) (q : Query) (l : Lent) → Quiet (queryAnswerAt b d q l)
 unfolding channels.retiredAnswer channels.retiredLength
 query-quiet b d to.retired l =
     unless-quiet (channels.retiredRefusal b d (length (first l)) (length (second l))) (ans.part (channels.retiredWords b d (first l) (second l)))

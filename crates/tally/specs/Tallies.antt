@@ -12,7 +12,7 @@ abbrev pub sends : ℕ → BoardAnswer → Bool
 sends number (one a) = false
 sends number (each a b c d) = isFrame (ofFour number a b c d)
 
--- one more where the test holds. A count stays at 2^32 − 1; no run file brings it there (proofs of run_file)
+-- one more where the test holds. A count stays at 2^32 − 1; no run file brings it there (`Drawn`, crate run_laws)
 abbrev pub more : Bool → ℕ → ℕ
 more test n = cond test (cond (ltb n 4294967295) (n + 1) n) n
 

@@ -25,7 +25,7 @@ wrapping-add-u64-requires-2 c κs = search needs
 
 returns : tie.Need-returns
 unfolding timesPrime
-returns c = simp (c .wrapping-add-u642 .ensures, c .before .wrapping-add-u64 .ensures) (prime-product (c .before .before .args .x))
+returns c = simp (c .wrapping-add-u642 .ensures, c .before .wrapping-add-u64 .ensures) (prime-product (c .before .before .args .number))
 
 pub times-prime-spec : {M : Type 1} → statement M
 times-prime-spec =

@@ -1,4 +1,5 @@
--- Document 01, 'Calls': refusals 1 and 2, of the memory that a call is lent and of the channel that it names; the sizes of a channel's part.
+-- Document 01, 'Calls': what the board checks of a call before it hands it on, refusals 1 and 2: the memory that it is lent, the channel that it names;
+-- and the sizes of a channel's part.
 use Prim.Native.Nat.{ℕ, _*_}
 use mathlib.Core.Bool.{Bool}
 use lib.Dec.{eqb}
