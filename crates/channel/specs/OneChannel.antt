@@ -17,7 +17,8 @@ use Rattle.channel_core.specs.declared.Channel.{Channel}
 use Rattle.channel_core.specs.Answers.{Answer}
 use Rattle.channel_core.specs.Answers as ans
 use Rattle.channel_core.specs.State.{opened}
-use Rattle.channel_core.specs.Behaviour.{userChanged, eventOf, eventWords, tickOf, tickAnswer, replyAnswer, replyOf, replyWords}
+use Rattle.channel_core.specs.Behaviour.{userChanged, eventOf, eventWords, tickOf, tickAnswer}
+use Rattle.channel_replies.specs.Replying.{replyAnswer, replyOf, replyWords}
 use Rattle.channel.specs.Calls.{unless, registerRefusal, registerEffect, registerWords, readEffect, readValue, outside, setpointRefusal, setpointWords, armedOf, disarmedOf, retiredRefusal, mainBit, mainTaken}
 
 -- the calls that name the channel and change nothing. One more is a case here, and its refusal and its answer (`queryRefusal`, `queryAnswer`).

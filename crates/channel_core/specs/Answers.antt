@@ -2,11 +2,8 @@
 use Prim.Native.Nat.{ℕ}
 use mathlib.Core.Bool.{Bool, true, false}
 use mathlib.Core.List.{List}
-use Rattle.refusal.specs.Refusals.{numberOf}
 use Rattle.channel_core.specs.Results.{Result}
 use Rattle.channel_core.specs.Results as result
-use Rattle.channel_core.specs.declared.Receipt.{Receipt}
-use Rattle.channel_core.specs.declared.Receipt.the-variants as receipt
 use Rattle.channel_core.specs.declared.Line.{Line}
 use Rattle.channel_core.specs.declared.Line.the-variants as line
 
@@ -45,13 +42,6 @@ unsolicited = other result.unsolicited
 -- the length of a part
 abbrev pub partLength : ℕ → Answer
 partLength k = other (result.partLength k)
-
--- the answer of a reply
-abbrev pub receiptOf : Receipt → Answer
-receiptOf receipt.Kept = kept
-receiptOf receipt.Lost = lost
-receiptOf receipt.Unsolicited = unsolicited
-receiptOf (receipt.Refused k) = refused (numberOf k)
 
 -- the answer of a tick
 abbrev pub lineOf : Line → Answer

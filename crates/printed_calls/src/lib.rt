@@ -6,7 +6,7 @@ use call_script::pool;
 use channel::Outcome;
 use channel::PartLength;
 use channel::ReadOutcome;
-use channel_core::Receipt;
+use channel_replies::Receipt;
 use output::Block;
 use refusal::Refusal;
 

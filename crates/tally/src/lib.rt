@@ -1,10 +1,11 @@
 // What a run counts: steps, refusals and the frames of channels 1 to 4, drawn from the answers of the board's calls.
 use channel::Outcome;
 use channel::ReadOutcome;
-use channel_core::Receipt;
+use channel_replies::Receipt;
 use refusal::Refusal;
 ghost use mathlib.Core.Path.{_≡_};
-ghost use Rattle.channel_core.specs.Answers.{receiptOf, isRefusal};
+ghost use Rattle.channel_core.specs.Answers.{isRefusal};
+ghost use Rattle.channel_replies.specs.Answers.{receiptOf};
 ghost use Rattle.channel.specs.Answers.{outcomeOf, readOutcomeOf};
 ghost use Rattle.board.specs.Answers.{one};
 ghost use Rattle.tally.specs.Tallies.{nothingYet, tally, moreBy, tallyTicks};
