@@ -9,7 +9,7 @@ use Rattle.refusal.specs.Refusals.{numberOf}
 use Rattle.refusal.specs.declared.Refusal.the-variants as refusal
 use Rattle.channel_core.specs.Answers.{Answer, unless}
 use Rattle.channel_core.specs.Answers as ans
-use Rattle.channel_core.specs.Behaviour as core
+use Rattle.channel_replies.specs.Replying as replies
 use Rattle.channel.specs.Calls as one
 use Rattle.board_state.specs.declared.Board.{Board}
 use Rattle.board_state.specs.State.{channelAt, withChannelAt}
@@ -51,18 +51,18 @@ armAnswer number = cond (noChannel number) outOfRange ans.done
 
 unfoldable pub replyBoard : Board → ℕ → ℕ → ℕ → Board
 replyBoard b lent number f =
-    cond (readbacksFit b lent) (cond (noChannel number) b (withChannelAt b number (core.replyOf (channelAt b number) (b .m) f))) b
+    cond (readbacksFit b lent) (cond (noChannel number) b (withChannelAt b number (replies.replyOf (channelAt b number) (b .m) f))) b
 
 unfoldable pub replyAnswer : Board → ℕ → ℕ → ℕ → Answer
 replyAnswer b lent number f =
-    cond (readbacksFit b lent) (cond (noChannel number) outOfRange (core.replyAnswer (channelAt b number) (b .m) f)) sizeMismatch
+    cond (readbacksFit b lent) (cond (noChannel number) outOfRange (replies.replyAnswer (channelAt b number) (b .m) f)) sizeMismatch
 
 unfoldable pub replyWords : Board → List ℕ → ℕ → ℕ → List ℕ
 replyWords b s number f =
     cond (readbacksFit b (length s))
     (cond (noChannel number) s
     (withOwn s (readbackSize b) number
-    (core.replyWords (channelAt b number) (own s (readbackSize b) number) (b .m) (b .user) f)))
+    (replies.replyWords (channelAt b number) (own s (readbackSize b) number) (b .m) (b .user) f)))
     s
 
 -- ---- Retired readbacks, and the call that answers the number or the part's length

@@ -3,11 +3,12 @@ use board_state::Board;
 use board_state::Written;
 use channel::PartLength;
 use channel_core::Outcome;
-use channel_core::Receipt;
+use channel_replies::Receipt;
 use refusal::Refusal;
 ghost use mathlib.Core.Path.{_≡_};
 ghost use lib.ListN.{length};
-ghost use Rattle.channel_core.specs.Answers.{receiptOf, outcomeOf};
+ghost use Rattle.channel_core.specs.Answers.{outcomeOf};
+ghost use Rattle.channel_replies.specs.Answers.{receiptOf};
 ghost use Rattle.channel.specs.Answers.{lengthOf};
 ghost use Rattle.board_channels.specs.Calls.{setpointAnswer, setpointWords, setArmed, armBoard, disarmBoard, armAnswer, replyBoard, replyAnswer, replyWords, partOf, retiredAnswer, retiredLength};
 
@@ -102,7 +103,7 @@ pub fn reply(b: Board, readbacks: &mut [u32], number: u32, frame: u64) -> Receiv
     let named = b.channel(channel_number);
     let start = board_state::part_start(channel_number, m, 2);
     let end = start + m as usize * 2;
-    let received = named.reply(&mut readbacks[start..end], m, b.user, frame);
+    let received = channel_replies::reply(named, &mut readbacks[start..end], m, b.user, frame);
     let changed = received.channel;
     let receipt = received.receipt;
     Received {

@@ -6,8 +6,6 @@ use lib.Dec.{eqb}
 use Rattle.refusal.specs.Refusals.{numberOf}
 use Rattle.channel_core.specs.Results.{Result}
 use Rattle.channel_core.specs.Results as result
-use Rattle.channel_core.specs.declared.Receipt.{Receipt}
-use Rattle.channel_core.specs.declared.Receipt.the-variants as receipt
 use Rattle.channel_core.specs.declared.Line.{Line}
 use Rattle.channel_core.specs.declared.Line.the-variants as line
 use Rattle.channel_core.specs.declared.Outcome.{Outcome}
@@ -52,13 +50,6 @@ partLength k = other (result.partLength k)
 -- refused with this number, or not
 abbrev pub unless : ℕ → Answer → Answer
 unless k a = cond (eqb k 0) a (refused k)
-
--- the answer of a reply
-abbrev pub receiptOf : Receipt → Answer
-receiptOf receipt.Kept = kept
-receiptOf receipt.Lost = lost
-receiptOf receipt.Unsolicited = unsolicited
-receiptOf (receipt.Refused k) = refused (numberOf k)
 
 -- the answer of a tick
 abbrev pub lineOf : Line → Answer

@@ -1,9 +1,6 @@
-// A channel's life: Start, Group End, events and commands, user changes, ticks and replies, over the channel's own part of the lent memory.
+// A channel's life: Start, Group End, events and commands, user changes and ticks, over the channel's own part of the lent memory.
 // It knows no board and no other channel.
-mod replies;
-
 use readback::Readbacks;
-use refusal::Refusal;
 use registers::Registers;
 use sequencer::Sequencer;
 use sequencer::Transmission;
@@ -30,15 +27,6 @@ pub enum Line {
     Frame(u64),
 }
 
-// The answer of a reply.
-pub enum Receipt {
-    Kept,
-    Lost,
-    // "unasked"
-    Unsolicited,
-    Refused(Refusal),
-}
-
 // The answer of a call that has nothing to tell but that it was done.
 pub enum Outcome {
     Done,
@@ -48,11 +36,6 @@ pub enum Outcome {
 pub struct Ticked {
     pub channel: Channel,
     pub line: Line,
-}
-
-pub struct Received {
-    pub channel: Channel,
-    pub receipt: Receipt,
 }
 
 // Where a setpoint lies in the channel's own words; user and buffer from 0.

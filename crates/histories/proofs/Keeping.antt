@@ -23,7 +23,8 @@ use Rattle.channel_core.specs.State as state
 use Rattle.channel_core.specs.State.{reset}
 use Rattle.channel_core.specs.Answers.{Answer, part, partLength}
 use Rattle.channel_core.specs.Answers as ans
-use Rattle.channel_core.specs.Behaviour.{userChanged, groupEnded, groupWords, endedIf, endedWords, eventWords, commandWords, tickOf, dispositionNow, receiptAnswer, receivedChannel, receivedWords, replyAnswerAs, replyAs, replyWordsAs, replyAnswer, replyOf, replyWords}
+use Rattle.channel_core.specs.Behaviour.{userChanged, groupEnded, groupWords, endedIf, endedWords, eventWords, commandWords, tickOf}
+use Rattle.channel_replies.specs.Replying.{dispositionNow, receiptAnswer, receivedChannel, receivedWords, replyAnswerAs, replyAs, replyWordsAs, replyAnswer, replyOf, replyWords}
 use Rattle.channel_registers.specs.Calls.{registerEffect, registerWords}
 use Rattle.channel.specs.Calls.{armedOf, disarmedOf}
 use Rattle.channel.specs.OneChannel.{ChannelCall, OneChannel, effect, answer, transition, response, transitions, queryAnswer, mainAnswer, withUser, withChannel, userChange, oneChannel, refusalOf, retiredOf}

@@ -12,7 +12,8 @@ use Rattle.registers.specs.Map.{triggersOf, groupEndEvent}
 use Rattle.readback.specs.declared.Disposition.{Disposition}
 use Rattle.readback.specs.declared.Disposition.the-variants as disposition
 use Rattle.channel_core.specs.declared.Channel.{Channel}
-use Rattle.channel_core.specs.Behaviour.{groupWords, endedWords, eventWords, commandWords, dispositionNow, receivedWords, replyWordsAs, replyWords}
+use Rattle.channel_core.specs.Behaviour.{groupWords, endedWords, eventWords, commandWords}
+use Rattle.channel_replies.specs.Replying.{dispositionNow, receivedWords, replyWordsAs, replyWords}
 use Rattle.channel_registers.specs.Calls.{registerRefusal, registerWords, writtenWords}
 use Rattle.channel.specs.Calls.{setpointRefusal, setpointWords}
 use Rattle.channel.proofs.Cases.{either}

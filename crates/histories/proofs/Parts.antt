@@ -25,7 +25,8 @@ use Rattle.readback.specs.declared.Disposition.the-variants as disposition
 use Rattle.readback.specs.Storing.{keptIn, capacity}
 use Rattle.channel_core.specs.declared.Channel.{Channel}
 use Rattle.channel_core.specs.State.{opened, reset, withStatus, withRegisters, withSequencer}
-use Rattle.channel_core.specs.Behaviour.{started, startedIf, endedIf, resumedIf, resumedOn, eventOf, commanded, groupEnded, earlyEnded, userChanged, sendStatus, dueOf, playedOf, tickOf, crcStatus, dispositionNow, receivedChannel, replyAs, replyOf}
+use Rattle.channel_core.specs.Behaviour.{started, startedIf, endedIf, resumedIf, resumedOn, eventOf, commanded, groupEnded, earlyEnded, userChanged, sendStatus, dueOf, playedOf, tickOf}
+use Rattle.channel_replies.specs.Replying.{crcStatus, dispositionNow, receivedChannel, replyAs, replyOf}
 use Rattle.channel.proofs.Cases.{clash, either, by-test}
 use Rattle.histories.proofs.Ticks.{Latching, plays-ticked}
 use Rattle.histories.specs.Statuses.{isCondition}

@@ -11,8 +11,8 @@ use Rattle.sequencer.specs.Playing.{isIdle}
 use Rattle.readback.specs.declared.Disposition.the-variants as disposition
 use Rattle.readback.specs.Storing.{isDue, dispositionOf, capacity, storedWord}
 use Rattle.channel_core.specs.Answers.{kept, lost, unsolicited}
-use Rattle.channel_core.specs.Behaviour.{dispositionNow, receiptAnswer, receivedChannel, receivedWords, replyAnswer, replyOf, replyWords}
 use Rattle.channel_core.specs.State as state
+use Rattle.channel_replies.specs.Replying.{dispositionNow, receiptAnswer, receivedChannel, receivedWords, replyAnswer, replyOf, replyWords}
 use Rattle.channel.specs.OneChannel.{ChannelCall, OneChannel, oneChannel, refusalOf, effect, answer, transition, response, transitions, reply}
 use Rattle.histories.specs.History.{history}
 use Rattle.histories.specs.Windows.{Window, closed, windowSince}

@@ -22,7 +22,8 @@ use Rattle.readback.specs.Storing.{isDue, dispositionOf, capacity}
 use Rattle.channel_core.specs.declared.Channel.{Channel}
 use Rattle.channel_core.specs.Answers.{Answer, isFrame, isReceived}
 use Rattle.channel_core.specs.Answers as ans
-use Rattle.channel_core.specs.Behaviour.{endedIf, groupEnded, sendFrame, dispositionNow, receiptAnswer, receivedChannel, replyAs, replyAnswerAs, replyOf, replyAnswer}
+use Rattle.channel_core.specs.Behaviour.{endedIf, groupEnded, sendFrame}
+use Rattle.channel_replies.specs.Replying.{dispositionNow, receiptAnswer, receivedChannel, replyAs, replyAnswerAs, replyOf, replyAnswer}
 use Rattle.channel.proofs.Cases.{clash}
 use Rattle.histories.specs.Windows.{Window, closed}
 use Rattle.histories.specs.Ranges.{Countdown, Quiet}

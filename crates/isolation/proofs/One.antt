@@ -13,8 +13,10 @@ use Rattle.sequencer.specs.declared.Transmission.the-variants as transmission
 use Rattle.channel_core.specs.declared.Channel.{Channel}
 use Rattle.channel_core.specs.Answers.{Answer, isRefusal, unless}
 use Rattle.channel_core.specs.Answers as ans
-use Rattle.channel_core.specs.Behaviour.{sendFrame, playedOf, replyAnswerAs, replyAs, replyWordsAs}
+use Rattle.channel_core.specs.Behaviour.{sendFrame, playedOf}
 use Rattle.channel_core.specs.Behaviour as core
+use Rattle.channel_replies.specs.Replying.{replyAnswerAs, replyAs, replyWordsAs}
+use Rattle.channel_replies.specs.Replying as replies
 use Rattle.channel_registers.specs.Calls.{registerRefusal}
 use Rattle.channel_registers.specs.Calls as channel-registers
 use Rattle.channel.specs.Calls.{setpointRefusal}
@@ -85,8 +87,8 @@ module _ (o : OneChannel) where
 
     pub transition-reply : (f : ℕ)
         → transition o (to.reply k f)
-        ≡ withBoth o (core.replyOf (o .channel) (o .m) f) (core.replyWords (o .channel) (o .readbacks) (o .m) (o .user) f)
-    unfolding transition refusalOf effect core.replyOf core.replyWords
+        ≡ withBoth o (replies.replyOf (o .channel) (o .m) f) (replies.replyWords (o .channel) (o .readbacks) (o .m) (o .user) f)
+    unfolding transition refusalOf effect replies.replyOf replies.replyWords
     transition-reply f = rw fit (go (read f))
       where
         go : (r : Reading)
@@ -159,8 +161,8 @@ module _ (o : OneChannel) where
   response-setpoint k u f i x = fit-first k (o .n * 64) (setpointRefusal (o .channel) (o .n) u f i) ans.done
 
   pub response-reply : (k f : ℕ)
-      → response o (to.reply k f) ≡ cond (eqb k (o .m * 8)) (core.replyAnswer (o .channel) (o .m) f) sizeMismatch
-  unfolding response refusalOf answer core.replyAnswer
+      → response o (to.reply k f) ≡ cond (eqb k (o .m * 8)) (replies.replyAnswer (o .channel) (o .m) f) sizeMismatch
+  unfolding response refusalOf answer replies.replyAnswer
   response-reply k f =
       fit-first k (o .m * 8) (framingRefusal (read f)) (replyAnswerAs (read f) (o .channel) (o .m))
       ∙ ap (λ (a : Answer). cond (eqb k (o .m * 8)) a sizeMismatch) (go (read f))

@@ -9,7 +9,7 @@ use lib.ListN.{length}
 use lib.Dec.{eqb}
 use borrow.Author.Tests.{eqb-true, eq-eqb, ne-eqb}
 use Rattle.address_map.specs.Addresses.{Named, named, main, channel, nothing}
-use Rattle.channel_core.specs.Behaviour as core
+use Rattle.channel_replies.specs.Replying as replies
 use Rattle.channel_registers.specs.Calls as channel-registers
 use Rattle.channel.specs.Calls as chn
 use Rattle.channel.specs.OneChannel.{withChannel, withSetpoints}
@@ -89,7 +89,7 @@ module _ (w : World) (c : ℕ) (h : Number c) (d : ℕ) (ne : c ≡ d → ⊥) w
       words =
           ap (λ (r : List ℕ). own r (w .board .m * 2) c) (replies-over (w .board) (w .readbacks) d f)
           ∙ over-theirs (w .readbacks) (w .board .m * 8) (w .board .m * 2) d
-          (λ (p : List ℕ). core.replyWords (channelAt (w .board) d) p (w .board .m) (w .board .user) f) (parted-reads (w .board))
+          (λ (p : List ℕ). replies.replyWords (channelAt (w .board) d) p (w .board .m) (w .board .user) f) (parted-reads (w .board))
           (λ p. reply-length (channelAt (w .board) d) p (w .board .m) (w .board .user) f) c h ne
 
 -- a register call that names nothing

@@ -14,8 +14,8 @@ use Rattle.register_map.specs.AccessRefusals.{readRefusal, writeRefusal}
 use Rattle.channel_core.specs.declared.Channel.{Channel}
 use Rattle.channel_core.specs.Answers.{isRefusal}
 use Rattle.channel_core.specs.Answers as ans
-use Rattle.channel_core.specs.Behaviour.{dispositionNow, receiptAnswer, replyAnswerAs, replyAs, replyWordsAs}
-use Rattle.channel_core.specs.Behaviour as core
+use Rattle.channel_replies.specs.Replying.{dispositionNow, receiptAnswer, replyAnswerAs, replyAs, replyWordsAs}
+use Rattle.channel_replies.specs.Replying as replies
 use Rattle.channel_registers.specs.Calls.{registerRefusal}
 use Rattle.channel_registers.specs.Calls as channel-registers
 use Rattle.channel.specs.Calls.{setpointRefusal}
@@ -60,16 +60,16 @@ module _ (c : Channel) where
   unfolding chn.setpointAnswer chn.setpointWords
   setpoint-words s n u b i x h = rw (unless-refused (setpointRefusal c n u b i) ans.done refl h)
 
-  pub reply-still : (m f : ℕ) → isRefusal (core.replyAnswer c m f) ≡ true → core.replyOf c m f ≡ c
-  unfolding core.replyAnswer core.replyOf
+  pub reply-still : (m f : ℕ) → isRefusal (replies.replyAnswer c m f) ≡ true → replies.replyOf c m f ≡ c
+  unfolding replies.replyAnswer replies.replyOf
   reply-still m f h = go (read f) h
     where
       go : (r : Reading) → isRefusal (replyAnswerAs r c m) ≡ true → replyAs r c m ≡ c
       go (frame.refused k) h = refl
       go (frame.fields id word aux crc) h = clash (sym (disposition-none (dispositionNow c m)) ∙ h)
 
-  pub reply-words : (s : List ℕ) (m u f : ℕ) → isRefusal (core.replyAnswer c m f) ≡ true → core.replyWords c s m u f ≡ s
-  unfolding core.replyAnswer core.replyWords
+  pub reply-words : (s : List ℕ) (m u f : ℕ) → isRefusal (replies.replyAnswer c m f) ≡ true → replies.replyWords c s m u f ≡ s
+  unfolding replies.replyAnswer replies.replyWords
   reply-words s m u f h = go (read f) h
     where
       go : (r : Reading) → isRefusal (replyAnswerAs r c m) ≡ true → replyWordsAs r c s m u ≡ s

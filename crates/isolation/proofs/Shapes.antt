@@ -9,7 +9,7 @@ use lib.Dec.{eqb}
 use Rattle.address_map.specs.Addresses.{Named, named, main, channel, nothing}
 use Rattle.register_map.specs.AccessRule.{mainAccess}
 use Rattle.register_map.specs.AccessRefusals.{readRefusal, writeRefusal}
-use Rattle.channel_core.specs.Behaviour as core
+use Rattle.channel_replies.specs.Replying as replies
 use Rattle.channel_registers.specs.Calls as channel-registers
 use Rattle.channel.specs.Calls as chn
 use Rattle.channel.specs.OneChannel.{userRefusal}
@@ -108,7 +108,7 @@ module _ (b : Board) (s : List ℕ) where
   replies-length : (d f : ℕ) → SameLength s (channels.replyWords b s d f)
   replies-length d f =
       ap length (replies-over b s d f)
-      ∙ over-length s (b .m * 8) (b .m * 2) d (λ (p : List ℕ). core.replyWords (channelAt b d) p (b .m) (b .user) f) (parted-reads b)
+      ∙ over-length s (b .m * 8) (b .m * 2) d (λ (p : List ℕ). replies.replyWords (channelAt b d) p (b .m) (b .user) f) (parted-reads b)
       (λ p. reply-length (channelAt b d) p (b .m) (b .user) f)
 
 -- ---- So a good world stays good

@@ -12,6 +12,7 @@ use Rattle.register_map.specs.AccessRefusals.{readRefusal, writeRefusal}
 use Rattle.channel_core.specs.declared.Channel.{Channel}
 use Rattle.channel_core.specs.State.{opened}
 use Rattle.channel_core.specs.Behaviour as core
+use Rattle.channel_replies.specs.Replying as replies
 use Rattle.channel_registers.specs.Calls as channel-registers
 use Rattle.channel.specs.Calls as chn
 use Rattle.channel.specs.OneChannel.{Query, withChannel, withSetpoints, withUser, transition, refusalOf, effect, userRefusal}
@@ -80,7 +81,7 @@ module _ (w : World) (g : Good w) (c : ℕ) (h : Number c) where
       (ap₂ (withBoth (view c w)) (withChannelAt-same (w .board) c _ (g .four) h)
       (ap (λ (r : List ℕ). own r (w .board .m * 2) c) (replies-over (w .board) (w .readbacks) c f)
       ∙ over-mine (w .readbacks) (w .board .m * 8) (w .board .m * 2) c
-      (λ (p : List ℕ). core.replyWords (channelAt (w .board) c) p (w .board .m) (w .board .user) f) (parted-reads (w .board))
+      (λ (p : List ℕ). replies.replyWords (channelAt (w .board) c) p (w .board .m) (w .board .user) f) (parted-reads (w .board))
       (λ p. reply-length (channelAt (w .board) c) p (w .board .m) (w .board .user) f) (g .reads) h)
       ∙ sym (transition-reply (view c w) (length (w .readbacks)) (full-reads w g) f))
 

@@ -7,7 +7,7 @@ use lib.ListN.{length}
 use lib.Dec.{eqb}
 use borrow.Author.Tests.{eq-eqb, eqb-true}
 use Rattle.address_map.specs.Addresses.{named, channel}
-use Rattle.channel_core.specs.Behaviour as core
+use Rattle.channel_replies.specs.Replying as replies
 use Rattle.channel_registers.specs.Calls as channel-registers
 use Rattle.channel.specs.Calls as chn
 use Rattle.channel.proofs.Cases.{by-test}
@@ -69,7 +69,7 @@ module _ (b : Board) (s : List ℕ) (d : ℕ) where
 
   pub replies-over : (f : ℕ)
       → channels.replyWords b s d f
-      ≡ over s (b .m * 8) (b .m * 2) d (λ (p : List ℕ). core.replyWords (channelAt b d) p (b .m) (b .user) f)
+      ≡ over s (b .m * 8) (b .m * 2) d (λ (p : List ℕ). replies.replyWords (channelAt b d) p (b .m) (b .user) f)
   unfolding channels.replyWords
   replies-over f = refl
 

@@ -5,8 +5,8 @@ use call_script::lent;
 use call_script::pool;
 use channel::PartLength;
 use channel_core::Outcome;
-use channel_core::Receipt;
 use channel_registers::ReadOutcome;
+use channel_replies::Receipt;
 use output::Block;
 use refusal::Refusal;
 

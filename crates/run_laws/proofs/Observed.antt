@@ -15,7 +15,7 @@ use Rattle.readback.specs.declared.Disposition.the-variants as disposition
 use Rattle.channel_core.specs.declared.Channel.{Channel}
 use Rattle.channel_core.specs.Answers.{Answer, isRefusal, isFrame, unless}
 use Rattle.channel_core.specs.Answers as ans
-use Rattle.channel_core.specs.Behaviour.{receiptAnswer, dispositionNow, replyAnswerAs, replyAnswer}
+use Rattle.channel_replies.specs.Replying.{receiptAnswer, dispositionNow, replyAnswerAs, replyAnswer}
 use Rattle.channel_registers.specs.Calls as channel-registers
 use Rattle.channel.specs.Calls as chn
 use Rattle.channel.specs.OneChannel.{Query, userRefusal}

@@ -1,11 +1,12 @@
 // What a run counts: steps, refusals and the frames of channels 1 to 4, drawn from the answers of the board's calls.
 use channel_core::Outcome;
-use channel_core::Receipt;
 use channel_registers::ReadOutcome;
+use channel_replies::Receipt;
 use refusal::Refusal;
 ghost use mathlib.Core.Path.{_≡_};
-ghost use Rattle.channel_core.specs.Answers.{receiptOf, isRefusal, outcomeOf};
+ghost use Rattle.channel_core.specs.Answers.{isRefusal, outcomeOf};
 ghost use Rattle.channel_registers.specs.Answers.{readOutcomeOf};
+ghost use Rattle.channel_replies.specs.Answers.{receiptOf};
 ghost use Rattle.board.specs.Answers.{one};
 ghost use Rattle.tally.specs.Tallies.{nothingYet, tally, moreBy, tallyTicks};
 ghost use Rattle.tally.specs.Tallies.{more as Tallies·more, stepped as Tallies·stepped};

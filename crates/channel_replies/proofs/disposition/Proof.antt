@@ -1,8 +1,8 @@
--- `channel_core::Channel::disposition` meets its contract: by the stage, the last send and the stored count. Assumes nothing.
+-- `channel_replies::disposition` meets its contract: by the stage, the last send and the stored count. Assumes nothing.
 use borrow.Author.Needs.{needs}
-use Rattle.channel_core.specs.Behaviour.{dispositionNow}
-use Rattle.channel_core.proofs.Channel.disposition.Statement.{statement}
-use Rattle.channel_core.proofs.Channel.disposition.Tie as tie
+use Rattle.channel_replies.specs.Replying.{dispositionNow}
+use Rattle.channel_replies.proofs.disposition.Statement.{statement}
+use Rattle.channel_replies.proofs.disposition.Tie as tie
 
 is-idle-requires : tie.Need-is-idle-requires
 is-idle-requires c κs = search needs

@@ -1,7 +1,7 @@
--- `channel_core::Channel::counted` meets its contract: the status by the CRC, and one more reply. Assumes nothing.
+-- `channel_replies::counted` meets its contract: the status by the CRC, and one more reply. Assumes nothing.
 use borrow.Author.Needs.{needs}
-use Rattle.channel_core.proofs.Channel.counted.Statement.{statement}
-use Rattle.channel_core.proofs.Channel.counted.Tie as tie
+use Rattle.channel_replies.proofs.counted.Statement.{statement}
+use Rattle.channel_replies.proofs.counted.Tie as tie
 
 crc-checked-requires : tie.Need-crc-checked-requires
 crc-checked-requires c κs = search needs

@@ -1,8 +1,8 @@
--- `channel_core::Channel::reply` meets its contract: refused where it is not well framed, and else received with its fields. Assumes nothing.
-use Rattle.channel_core.specs.Behaviour.{replyOf, replyAnswer, replyWords}
+-- `channel_replies::reply` meets its contract: refused where it is not well framed, and else received with its fields. Assumes nothing.
+use Rattle.channel_replies.specs.Replying.{replyOf, replyAnswer, replyWords}
 use borrow.Author.Needs.{needs}
-use Rattle.channel_core.proofs.Channel.reply.Statement.{statement}
-use Rattle.channel_core.proofs.Channel.reply.Tie as tie
+use Rattle.channel_replies.proofs.reply.Statement.{statement}
+use Rattle.channel_replies.proofs.reply.Tie as tie
 
 decode-requires : tie.Need-decode-requires
 decode-requires c κs = search needs
@@ -16,8 +16,8 @@ enum-known-reading c = search needs
 crc-matches-requires : tie.Need-crc-matches-requires
 crc-matches-requires c κs = search needs
 
-received-requires : tie.Need-received-requires
-received-requires c κs = search needs
+receive-requires : tie.Need-receive-requires
+receive-requires c κs = search needs
 
 returns : tie.Need-returns
 unfolding replyOf replyAnswer replyWords
@@ -36,9 +36,9 @@ returns-2 c =
     let s = k .before .before .before .before in
     let fields = s .reading .given .1 in
     rw (← s .before .before .decode .ensures) (
-      simp (fields, k .received .ensures .0, right),
-      simp (fields, k .received .ensures .1),
-      simp (fields, k .received .ensures .2, right),
+      simp (fields, k .receive .ensures .0, right),
+      simp (fields, k .receive .ensures .1),
+      simp (fields, k .receive .ensures .2, right),
     )
 
 pub reply-spec : {M : Type 1} → statement M
@@ -49,7 +49,7 @@ reply-spec =
     enum-told
     enum-known-reading
     crc-matches-requires
-    received-requires
+    receive-requires
     returns
     same-length
     returns-2)

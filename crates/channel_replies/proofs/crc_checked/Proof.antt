@@ -1,7 +1,7 @@
--- `channel_core::replies::crc_checked` meets its contract: a wrong CRC is latched. Assumes nothing.
+-- `channel_replies::crc_checked` meets its contract: a wrong CRC is latched. Assumes nothing.
 use borrow.Author.Needs.{needs}
-use Rattle.channel_core.proofs.replies.crc_checked.Statement.{statement}
-use Rattle.channel_core.proofs.replies.crc_checked.Tie as tie
+use Rattle.channel_replies.proofs.crc_checked.Statement.{statement}
+use Rattle.channel_replies.proofs.crc_checked.Tie as tie
 
 returns : tie.Need-returns
 returns c = search needs

@@ -1,7 +1,7 @@
--- `channel_core::Channel::received` meets its contract: a reply not due changes nothing; a lost one is counted; a kept one is stored too. Assumes nothing.
+-- `channel_replies::receive` meets its contract: a reply not due changes nothing; a lost one is counted; a kept one is stored too. Assumes nothing.
 use borrow.Author.Needs.{needs}
-use Rattle.channel_core.proofs.Channel.received.Statement.{statement}
-use Rattle.channel_core.proofs.Channel.received.Tie as tie
+use Rattle.channel_replies.proofs.receive.Statement.{statement}
+use Rattle.channel_replies.proofs.receive.Tie as tie
 
 disposition-requires : tie.Need-disposition-requires
 disposition-requires c κs = search needs
@@ -55,8 +55,8 @@ returns-3 c =
       simp (kept, k .keep .ensures .1, k .before .readback-second-active .ensures, s .before .stored-word .ensures),
     )
 
-pub received-spec : {M : Type 1} → statement M
-received-spec =
+pub receive-spec : {M : Type 1} → statement M
+receive-spec =
     tie.close
     (tie.spec
     disposition-requires
