@@ -1,6 +1,7 @@
 // A channel's life: Start, Group End, events and commands, user changes and ticks, over the channel's own part of the lent memory.
 // It knows no board and no other channel.
 use readback::Readbacks;
+use refusal::Refusal;
 use registers::Registers;
 use sequencer::Sequencer;
 use sequencer::Transmission;
