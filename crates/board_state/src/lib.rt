@@ -40,10 +40,10 @@ pub fn part_start(number: u8, depth: u32, words: u8) -> usize
 }
 
 // A Main status: D11 is 1, D10-D8 the user less 1, D7-D4 channels 4-1, D3 an event came.
-fn main_word(user: u8, one: bool, two: bool, three: bool, four: bool, event: bool) -> u16
-    ensures { λ r. ⌜ r ≡ mainWord user one two three four event ⌝ }
+fn main_word(user: u8, first: bool, second: bool, third: bool, fourth: bool, event: bool) -> u16
+    ensures { λ r. ⌜ r ≡ mainWord user first second third fourth event ⌝ }
 {
-    let channels = weigh(four, 128) + weigh(three, 64) + weigh(two, 32) + weigh(one, 16);
+    let channels = weigh(fourth, 128) + weigh(third, 64) + weigh(second, 32) + weigh(first, 16);
     (2048 + registers::zero_based(user) as u32 % 8 * 256 + channels + weigh(event, 8)) as u16
 }
 
@@ -142,14 +142,14 @@ impl Board {
         ensures { λ r. ⌜ r ≡ mainStatus self polling ⌝ }
     {
         let main = self.main;
-        let one = main_bit(self.channel(1), polling);
-        let two = main_bit(self.channel(2), polling);
-        let three = main_bit(self.channel(3), polling);
-        let four = main_bit(self.channel(4), polling);
+        let first = main_bit(self.channel(1), polling);
+        let second = main_bit(self.channel(2), polling);
+        let third = main_bit(self.channel(3), polling);
+        let fourth = main_bit(self.channel(4), polling);
         if polling {
-            return main_word(self.user, one, two, three, four, main.polling);
+            return main_word(self.user, first, second, third, fourth, main.polling);
         }
-        main_word(self.user, one, two, three, four, main.interrupt)
+        main_word(self.user, first, second, third, fourth, main.interrupt)
     }
 
     // A channel's bit of a Main status cleared.
