@@ -6,20 +6,6 @@ use records::RecordsLength;
 use records::Request;
 use refusal::Refusal;
 
-// A record's call that is lent no words, and the board after it; any other record is a bad one.
-fn plain_call(block: &mut Block, b: Board, request: Request) -> Board {
-    match request {
-        Request::Read { address } => printed_calls::read_register(block, b, address),
-        Request::User { user } => printed_calls::change_user(block, b, user),
-        Request::Arm { number } => printed_calls::arm(block, b, number),
-        Request::Disarm { number } => printed_calls::disarm(block, b, number),
-        _ => {
-            printed_calls::refused(block, Refusal::BadRecord);
-            b
-        }
-    }
-}
-
 // A record's call, and the board after it.
 fn call(
     block: &mut Block,
@@ -32,6 +18,7 @@ fn call(
         Request::Write { address, value } => {
             printed_calls::write_register(block, b, readbacks, address, value)
         }
+        Request::Read { address } => printed_calls::read_register(block, b, address),
         Request::Setpoint {
             number,
             user,
@@ -48,7 +35,13 @@ fn call(
             number,
             frame,
         ),
-        _ => plain_call(block, b, request),
+        Request::User { user } => printed_calls::change_user(block, b, user),
+        Request::Arm { number } => printed_calls::arm(block, b, number),
+        Request::Disarm { number } => printed_calls::disarm(block, b, number),
+        Request::Bad => {
+            printed_calls::refused(block, Refusal::BadRecord);
+            b
+        }
     }
 }
 
