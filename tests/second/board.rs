@@ -1,11 +1,12 @@
-//! The four-channel board, from documents 01 and 000: its calls. Quotations are document 01's.
+//! The four-channel board, from documents 01, 000 and 02: its calls. Quotations are document 01's.
 
+mod command;
 mod life;
 mod replies;
 
 pub use self::replies::Reply;
 use self::life::Asked;
-use crate::channel::{Channel, Hold, ACTIVE, CLOCK, END, START, SWITCH};
+use crate::channel::{Channel, Hold, Window, ACTIVE, CLOCK, END, START, SWITCH};
 use crate::map::{place, rule, Place};
 use crate::tally::{Did, Tally};
 
@@ -13,13 +14,17 @@ use crate::tally::{Did, Tally};
 pub struct Peek {
     pub armed: bool,
     pub idle: bool,
-    /// Ticks to the next send.
+    /// Ticks to the function's next send.
     pub wait: u64,
     /// The pause (1–5) it is in, 0 for none.
     pub pause: u32,
     pub replies: Option<u32>,
     pub stored: usize,
     pub active: u16,
+    /// A command frame leaves on the next tick.
+    pub command_is_due: bool,
+    /// A command frame waits for Group End.
+    pub command_awaits_group_end: bool,
 }
 
 #[derive(Clone)]
@@ -72,7 +77,7 @@ impl Board {
         if (1..=4).contains(&c) { Ok(c as usize - 1) } else { Err(2) }
     }
 
-    /// Refusals 1, 3, 4, 5.
+    /// Refusals 1, 3, 4, 10, 5.
     pub fn write(&mut self, address: u32, value: u16, readbacks: &mut [u32]) -> Result<(), u8> {
         self.readbacks_fit(readbacks).inspect_err(|_| self.tally.add(Did::write_refused_1))?;
         let (c, offset) = match place(address, true)? {
@@ -82,12 +87,7 @@ impl Board {
             Place::Channel(c, offset) => (c, offset),
         };
         match offset {
-            // "Reset D0 returns that channel to its opening state; lent words and its Main
-            // bits stay"
-            0x06 if value & 1 == 1 => {
-                self.tally.add(if self.ch[c].function.is_some() { Did::reset_not_idle } else { Did::reset_idle });
-                self.ch[c] = Channel::new();
-            }
+            0x06 if value & 1 == 1 => self.reset(c),
             0x06 => self.tally.add(Did::reset_without_d0),
             // "Start (its event, or Commands D0)", "Commands D1 (VME pause only)", "Group End
             // (event, or Commands D2)"
@@ -96,21 +96,33 @@ impl Board {
                 let asked = Asked { group_end: value & 4 != 0, start: value & 1 != 0, resume, by_command: true };
                 self.act(c, asked, readbacks);
             }
+            0xFC => return self.ask_command(c, value),
             // "A code is the whole word written"
             0x0A if value > 3 => return Err(5),
-            _ => {
-                let kept = value & rule(offset).map_or(0, |r| r.2);
-                let at = offset as usize / 2;
-                if at == CLOCK && self.ch[c].function.is_some() && self.ch[c].w[at] != kept {
-                    self.tally.add(Did::clock_changed_while_running);
-                }
-                if (SWITCH..SWITCH + 8).contains(&at) && kept == 0 && self.ch[c].w[at] == 1 {
-                    self.tally.add(Did::switch_withdrawn);
-                }
-                self.ch[c].w[at] = kept;
-            }
+            _ => self.keep(c, offset, value),
         }
         Ok(())
+    }
+
+    /// "Reset D0 returns that channel to its opening state; lent words and its Main bits stay"
+    fn reset(&mut self, c: usize) {
+        self.tally.add(if self.ch[c].function.is_some() { Did::reset_not_idle } else { Did::reset_idle });
+        self.drop_command(c, Did::command_dropped_by_reset);
+        self.close_window(c, Window::Closed);
+        self.ch[c] = Channel::new();
+    }
+
+    /// "Other bits written are dropped and read 0."
+    fn keep(&mut self, c: usize, offset: u32, value: u16) {
+        let kept = value & rule(offset).map_or(0, |r| r.2);
+        let at = offset as usize / 2;
+        if at == CLOCK && self.ch[c].function.is_some() && self.ch[c].w[at] != kept {
+            self.tally.add(Did::clock_changed_while_running);
+        }
+        if (SWITCH..SWITCH + 8).contains(&at) && kept == 0 && self.ch[c].w[at] == 1 {
+            self.tally.add(Did::switch_withdrawn);
+        }
+        self.ch[c].w[at] = kept;
     }
 
     /// Refusals 3, 4. "Reading a status clears the latched bits (all of a channel's, D7–D3 of
@@ -135,7 +147,10 @@ impl Board {
                 }
                 Ok(latched)
             }
-            Place::Channel(c, offset) => Ok(self.ch[c].w[offset as usize / 2]),
+            Place::Channel(c, offset) => {
+                self.tally_command_read(c, offset as usize / 2);
+                Ok(self.ch[c].w[offset as usize / 2])
+            }
         }
     }
 
@@ -176,6 +191,8 @@ impl Board {
     pub fn disarm(&mut self, c: u32) -> Result<(), u8> {
         let c = Board::channel(c)?;
         self.tally.add(if self.ch[c].function.is_some() { Did::disarm_not_idle } else { Did::disarm_idle });
+        let is_armed = self.ch[c].armed;
+        self.drop_command(c, if is_armed { Did::command_dropped_by_disarm } else { Did::command_dropped_by_disarm_of_disarmed });
         self.ch[c].function = None;
         self.ch[c].armed = false;
         Ok(())
@@ -187,8 +204,15 @@ impl Board {
         self.now += 1;
         let mut frames = [None; 4];
         for c in 0..4 {
+            if self.ch[c].waiting.is_some() {
+                frames[c] = self.tick_command(c);
+            }
             if self.ch[c].function.is_some() {
-                frames[c] = self.tick_channel(c, setpoints);
+                let setpoint = self.tick_channel(c, setpoints);
+                // never both: what is due leaves on the next tick; it became due on an idle channel, by D0 or Group
+                // End, and a Start since then sends 10 ticks later at the earliest
+                assert!(frames[c].is_none() || setpoint.is_none());
+                frames[c] = frames[c].or(setpoint);
             }
         }
         Ok(frames)
@@ -223,6 +247,9 @@ impl Board {
         self.user = user;
         for c in 0..4 {
             self.end_function(c, Did::ee_by_user_change);
+            if self.is_for_command(c) {
+                self.tally.add(Did::command_window_open_at_user_change);
+            }
         }
         Ok(())
     }
@@ -256,6 +283,8 @@ impl Board {
             replies: f.and_then(|f| f.sent).map(|s| s.1),
             stored: ch.stored[ch.active_readback()],
             active: ch.w[ACTIVE],
+            command_is_due: ch.waiting.is_some_and(|w| w.due.is_some()),
+            command_awaits_group_end: ch.waiting.is_some_and(|w| w.due.is_none()),
         }
     }
 }

@@ -53,13 +53,44 @@ pub struct Function {
     pub fresh: bool,
 }
 
+/// A command frame that waits (document 02, request 1).
+#[derive(Clone, Copy)]
+pub struct Waiting {
+    /// The tick on which it leaves; none before the Group End that D1 waits for.
+    pub due: Option<u64>,
+    /// For the tally alone.
+    pub asked: CommandAsked,
+}
+
+/// FC's D1 and D0 when a command frame was asked for, and the channel as it then was.
+#[derive(Clone, Copy)]
+pub struct CommandAsked {
+    pub bits: u16,
+    pub fields: [u16; 2],
+    pub user: u32,
+    pub active_readback: usize,
+}
+
+/// Replies go to E4–FA while it is open. What closed it is for the tally alone.
+#[derive(Clone, Copy, PartialEq)]
+pub enum Window {
+    Closed,
+    Open,
+    ClosedBySetpoint,
+    ClosedByGroupEnd,
+}
+
 #[derive(Clone)]
 pub struct Channel {
-    pub w: [u16; 112],
+    pub w: [u16; 128],
     pub armed: bool,
     pub function: Option<Function>,
     pub count: u32,
     pub stored: [usize; 2],
+    pub waiting: Option<Waiting>,
+    pub window: Window,
+    /// Command frames since the setpoint count was cleared (for the tally alone).
+    pub commands: u32,
 }
 
 // Half offsets in `w`.
@@ -72,10 +103,22 @@ pub const START: usize = 0x20 / 2;
 pub const END: usize = 0x2A / 2;
 pub const SWITCH: usize = 0x30 / 2;
 pub const DELAYS: usize = 0x40 / 2;
+pub const COMMAND: usize = 0xE0 / 2;
+pub const PAIRS: usize = 0xE4 / 2;
+pub const REPLIED: usize = 0xFE / 2;
 
 impl Channel {
     pub fn new() -> Channel {
-        Channel { w: [0; 112], armed: false, function: None, count: 0, stored: [0, 0] }
+        Channel {
+            w: [0; 128],
+            armed: false,
+            function: None,
+            count: 0,
+            stored: [0, 0],
+            waiting: None,
+            window: Window::Closed,
+            commands: 0,
+        }
     }
     /// The user's start delay (k = 0) or resume k delay: "per user: high byte, then low word".
     pub fn delay(&self, k: u32, user: u32) -> u64 {

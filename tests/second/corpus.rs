@@ -6,6 +6,7 @@
 //! its next send, one fewer or one more, the seventh reply, a buffer filled to the brim.
 
 mod acts;
+mod commands;
 mod dice;
 mod files;
 mod story;

@@ -1,5 +1,5 @@
 //! The register map: which address is whose, what may be read and written, and the bits that are
-//! kept. Quotations are document 01's.
+//! kept. Quotations are document 01's, where no other is named.
 
 /// The channel's registers: (read, write, bits kept). "Offsets from there are even".
 pub fn rule(offset: u32) -> Option<(bool, bool, u16)> {
@@ -16,6 +16,10 @@ pub fn rule(offset: u32) -> Option<(bool, bool, u16)> {
         0x30..=0x3E => Some((false, true, 0x0001)),
         0x40..=0xDE if offset % 4 == 0 => Some((true, true, 0x00FF)),
         0x40..=0xDE => Some((true, true, 0xFFFF)),
+        // document 02, request 1: "FC is write-only here. E4–FA and FE are read-only."
+        0xE0 | 0xE2 => Some((true, true, 0xFFFF)),
+        0xE4..=0xFA | 0xFE => Some((true, false, 0)),
+        0xFC => Some((false, true, 0)),
         _ => None,
     }
 }

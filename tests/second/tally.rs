@@ -32,6 +32,23 @@ tallies! {
     part_empty part_not_empty count_shown_not_zero count_past_16_bits
     tick_refused write_refused_1 event_refused_1 setpoint_refused_1 reply_refused_1 retired_refused_1
     open_refused opened_again
+    command_by_d0 command_by_d1 command_by_both_bits command_with_auxiliary command_fields_changed
+    command_by_d0_after_start command_by_d1_after_start command_by_d0_after_group_end command_after_user_change
+    command_while_disarmed command_clears_count command_not_in_setpoint_count
+    command_due_by_event command_due_by_command command_due_by_event_with_start command_due_by_command_with_start
+    command_due_while_disarmed
+    command_first_of_many_ticks command_and_setpoint_in_one_record command_waits_through_many_ticks
+    command_on_two_channels_at_once
+    command_d0_replaced_by_d1 command_d1_replaced_by_d0 command_due_d1_replaced_by_d0 command_due_d1_replaced_by_d1
+    command_stays_without_bits command_refused_disarmed command_refused_not_idle command_refused_both_bits
+    command_refused_while_waiting
+    command_dropped_by_disarm command_dropped_by_disarm_of_disarmed command_dropped_by_reset
+    command_reply_kept command_reply_sixth command_reply_seventh command_reply_crc_wrong command_reply_with_auxiliary
+    command_reply_while_disarmed command_reply_in_start_delay command_reply_with_full_buffer
+    command_reply_after_setpoint command_reply_after_group_end
+    command_window_closed_by_setpoint command_window_closed_by_group_end command_window_closed_by_reset
+    command_window_open_at_user_change
+    command_fields_read command_pair_read command_old_pair_read command_count_read
 }
 
 #[derive(Clone)]

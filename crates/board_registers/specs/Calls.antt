@@ -30,10 +30,10 @@ writeBoardAt (main offset) b value = cond (eqb (writeRefusal (mainAccess offset)
 writeBoardAt (channel number offset) b value = withChannelAt b number (one.writtenOf (channelAt b number) offset value)
 writeBoardAt nothing b value = b
 
-abbrev pub writeAnswerAt : Named → ℕ → Answer
-writeAnswerAt (main offset) value = unless (writeRefusal (mainAccess offset)) ans.done
-writeAnswerAt (channel number offset) value = one.writtenAnswer offset value
-writeAnswerAt nothing value = unmapped
+abbrev pub writeAnswerAt : Named → Board → ℕ → Answer
+writeAnswerAt (main offset) b value = unless (writeRefusal (mainAccess offset)) ans.done
+writeAnswerAt (channel number offset) b value = one.writtenAnswer (channelAt b number) offset value
+writeAnswerAt nothing b value = unmapped
 
 abbrev pub writeWordsAt : Named → Board → List ℕ → ℕ → List ℕ
 writeWordsAt (main offset) b s value = s
@@ -45,7 +45,7 @@ unfoldable pub writeBoard : Board → ℕ → ℕ → ℕ → Board
 writeBoard b lent address value = cond (readbacksFit b lent) (writeBoardAt (named address) b value) b
 
 unfoldable pub writeAnswer : Board → ℕ → ℕ → ℕ → Answer
-writeAnswer b lent address value = cond (readbacksFit b lent) (writeAnswerAt (named address) value) sizeMismatch
+writeAnswer b lent address value = cond (readbacksFit b lent) (writeAnswerAt (named address) b value) sizeMismatch
 
 unfoldable pub writeWords : Board → List ℕ → ℕ → ℕ → List ℕ
 writeWords b s address value = cond (readbacksFit b (length s)) (writeWordsAt (named address) b s value) s

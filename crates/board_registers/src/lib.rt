@@ -26,7 +26,7 @@ pub struct Read {
 // A write to a channel's register, over its part of the readbacks.
 fn write_channel(b: Board, readbacks: &mut [u32], number: u8, offset: u16, value: u16) -> Written
     requires { ⌜ (number ≤ 4) × (length (now readbacks) ≡ b .m * 8) ⌝ }
-    ensures { λ r. ⌜ (r .board ≡ withChannelAt b number (writtenOf (channelAt b number) offset value)) × (outcomeOf (r .outcome) ≡ writtenAnswer offset value) × (now (readbacks .exit) ≡ withOwn (now (readbacks .entry)) (readbackSize b) number (writtenWords (channelAt b number) (own (now (readbacks .entry)) (readbackSize b) number) (b .m) offset value)) ⌝ }
+    ensures { λ r. ⌜ (r .board ≡ withChannelAt b number (writtenOf (channelAt b number) offset value)) × (outcomeOf (r .outcome) ≡ writtenAnswer (channelAt b number) offset value) × (now (readbacks .exit) ≡ withOwn (now (readbacks .entry)) (readbackSize b) number (writtenWords (channelAt b number) (own (now (readbacks .entry)) (readbackSize b) number) (b .m) offset value)) ⌝ }
 {
     let m = b.m;
     let named = b.channel(number);
@@ -49,7 +49,7 @@ fn write_channel(b: Board, readbacks: &mut [u32], number: u8, offset: u16, value
 
 // A write to a Main register.
 fn write_main(b: Board, offset: u16, value: u16) -> Written
-    ensures { λ r. ⌜ (r .board ≡ writeBoardAt (main offset) b value) × (outcomeOf (r .outcome) ≡ writeAnswerAt (main offset) value) ⌝ }
+    ensures { λ r. ⌜ (r .board ≡ writeBoardAt (main offset) b value) × (outcomeOf (r .outcome) ≡ writeAnswerAt (main offset) b value) ⌝ }
 {
     let verdict = register_map::write_verdict(register_map::main_access(offset));
     match verdict {

@@ -13,6 +13,7 @@ use Rattle.channel_ticks.specs.Ticks.{ticksOf, answerAfter, framesAt, withFrame
 use Rattle.channel_ticks.specs.Quiet as one
 use Rattle.channel_ticks.proofs.TicksInRow as channel
 use Rattle.sequencer.specs.Playing.{ticked}
+use Rattle.command_frames.specs.Commanding as cmd
 use Rattle.board_state.specs.declared.Board.{Board}
 use Rattle.board_state.specs.State.{channelAt, withChannelAt, withChannels}
 use Rattle.board_state.specs.Parts.{own}
@@ -62,7 +63,7 @@ module _ (f : ℕ → Channel → Channel) (still : (j : ℕ) → f j opened ≡
 
 -- an opened channel is idle, and stays as it is
 tick-opened : (s : List ℕ) (n user : ℕ) → tickOf opened s n user ≡ opened
-unfolding tickOf ticked opened
+unfolding tickOf ticked cmd.ticked opened
 tick-opened s n user = refl
 
 ticks-opened : (s : List ℕ) (n user k : ℕ) → ticksOf opened s n user k ≡ opened
@@ -114,7 +115,7 @@ module _ (b : Board) (s : List ℕ) where
     unfolding ticksFramesAt channelFramesAt framesAt
     frames-next number h k l = rw (h, fit)
 
-  frames-none : (number k : ℕ) → k ≤ one.quietTicks (channelAt b number .sequencer) → ticksFrames b s number k ≡ 0
+  frames-none : (number k : ℕ) → k ≤ one.channelQuietTicks (channelAt b number) → ticksFrames b s number k ≡ 0
   unfolding ticksFrames channelFrames
   frames-none number k h = go (setpointsFit b (length s))
     where

@@ -43,8 +43,8 @@ ticksFrames b s number k = cond (setpointsFit b (length s)) (channelFrames b s n
 unfoldable pub ticksFramesAt : Board → List ℕ → ℕ → ℕ → List ℕ → List ℕ
 ticksFramesAt b s number k l = cond (noChannel number) l (cond (setpointsFit b (length s)) (channelFramesAt b s number k l) l)
 
--- how many of the next ticks only count down in all four channels: `quiet-run` says that they answer no frame
+-- how many of the next ticks only count down in all four channels, with no command frame: `quiet-run` says that they answer no frame
 unfoldable pub quietTicks : Board → ℕ
 quietTicks b =
-    min (min (one.quietTicks (channelAt b 1 .sequencer)) (one.quietTicks (channelAt b 2 .sequencer)))
-    (min (one.quietTicks (channelAt b 3 .sequencer)) (one.quietTicks (channelAt b 4 .sequencer)))
+    min (min (one.channelQuietTicks (channelAt b 1)) (one.channelQuietTicks (channelAt b 2)))
+    (min (one.channelQuietTicks (channelAt b 3)) (one.channelQuietTicks (channelAt b 4)))

@@ -6,7 +6,7 @@ use channel_ticks::quiet::least;
 ghost use mathlib.Core.Path.{_≡_};
 ghost use Prim.Native.Nat.{_*_, _≤_};
 ghost use lib.ListN.{length};
-ghost use Rattle.channel_ticks.specs.Quiet.{quietTicks as Quiet·quietTicks};
+ghost use Rattle.channel_ticks.specs.Quiet.{channelQuietTicks};
 ghost use Rattle.channel_ticks.specs.Ticks.{ticksOf, framesIn, framesAt};
 ghost use Rattle.board_state.specs.State.{channelAt};
 ghost use Rattle.board_state.specs.Parts.{own};
@@ -117,11 +117,9 @@ pub fn frames(b: Board, setpoints: &[u32], number: u32, count: u32, captured: &m
 
 // How many of the next ticks only count down, at the least.
 fn channel_quiet(b: Board, number: u8) -> u64
-    ensures { λ r. ⌜ r ≡ Quiet·quietTicks (channelAt b number .sequencer) ⌝ }
+    ensures { λ r. ⌜ r ≡ channelQuietTicks (channelAt b number) ⌝ }
 {
-    let named = b.channel(number);
-    let sequencer = named.sequencer;
-    quiet::quiet_ticks(sequencer)
+    quiet::channel_quiet_ticks(b.channel(number))
 }
 
 pub fn quiet_ticks(b: Board) -> u64

@@ -1,4 +1,5 @@
 -- Document 01, 'Calls' and 'Register map': the calls that name a channel, but the register calls and the reply, over its own part of the lent memory.
+-- Document 02, card 1: what disarm drops.
 -- Each refusal is decided by one definition (0: none), in the order of document 01's table; what a call does goes by cases on it.
 use Prim.Native.Nat.{ℕ, _-_}
 use mathlib.Core.Bool.{Bool, cond, _&&_, _||_}
@@ -12,10 +13,11 @@ use Rattle.registers.specs.declared.Registers.{Registers}
 use Rattle.registers.specs.Map.{secondActive, readbackPlace}
 use Rattle.sequencer.specs.Playing as seq
 use Rattle.readback.specs.Storing.{retiredPart}
+use Rattle.command_frames.specs.Commanding.{dropped}
 use Rattle.channel_core.specs.declared.Channel.{Channel}
 use Rattle.channel_core.specs.Answers.{Answer, unless}
 use Rattle.channel_core.specs.Answers as ans
-use Rattle.channel_core.specs.State.{withStatus, withSequencer}
+use Rattle.channel_core.specs.State.{withStatus, withSequencer, withCommands}
 use Rattle.channel_core.specs.Behaviour.{setpointPlace}
 use Rattle.channel_registers.specs.Calls.{withInterrupt, withPolling}
 
@@ -51,9 +53,9 @@ setpointWords c s n user buffer index word =
 unfoldable pub armedOf : Channel → Channel
 armedOf c = withSequencer c (seq.armed (c .sequencer))
 
--- "Disarm idles, without EE."
+-- "Disarm idles, without EE."; "Disarm and reset drop a waiting frame.", also of a channel that is not armed
 unfoldable pub disarmedOf : Channel → Channel
-disarmedOf c = withSequencer c (seq.disarmed (c .sequencer))
+disarmedOf c = withCommands (withSequencer c (seq.disarmed (c .sequencer))) (dropped (c .commands))
 
 -- armed (`on`) or disarmed
 abbrev pub setArmed : Channel → Bool → Channel

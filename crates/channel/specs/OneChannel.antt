@@ -95,7 +95,7 @@ queryRefusal o retired one two = retiredRefusal (o .m) one two
 queryRefusal o retiredLength one two = retiredRefusal (o .m) one two
 
 unfoldable pub refusalOf : OneChannel → ChannelCall → ℕ
-refusalOf o (writeRegister lent offset value) = then (lengthRefusal lent (o .m * 8)) (registerRefusal offset value)
+refusalOf o (writeRegister lent offset value) = then (lengthRefusal lent (o .m * 8)) (registerRefusal (o .channel) offset value)
 refusalOf o (readRegister offset) = readRefusal (channelAccess offset)
 refusalOf o (writeSetpoint lent user buffer index word) =
     then (lengthRefusal lent (o .n * 64)) (setpointRefusal (o .channel) (o .n) user buffer index)

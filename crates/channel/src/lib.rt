@@ -95,12 +95,14 @@ pub fn set_armed(c: Channel, on: bool) -> Channel
     ensures { λ r. ⌜ r ≡ setArmed c on ⌝ }
 {
     let sequencer = c.sequencer;
+    let commands = c.commands;
     let mut next = c;
     if on {
         next.sequencer = sequencer.armed();
         return next;
     }
     next.sequencer = sequencer.disarmed();
+    next.commands = commands.dropped();
     next
 }
 

@@ -1,6 +1,7 @@
 -- Document 01, 'A channel's life': what a channel does, over its own part of the lent memory (16 × N setpoint words, 2 × M readback words).
+-- Document 02, card 1: command frames, at a tick and a Group End.
 use Prim.Native.Nat.{ℕ, _+_, _-_, _*_, _%_}
-use mathlib.Core.Bool.{Bool, cond}
+use mathlib.Core.Bool.{Bool, true, false, cond}
 use mathlib.Core.List.{List}
 use lib.ListN.{getD}
 use lib.Dec.{eqb}
@@ -19,10 +20,13 @@ use Rattle.sequencer.specs.Playing.{isIdle, unfinished, idled, ticked}
 use Rattle.sequencer.specs.Playing as seq
 use Rattle.readback.specs.Storing.{endWords}
 use Rattle.readback.specs.Storing as rb
+use Rattle.command_frames.specs.declared.CommandFrames.{CommandFrames}
+use Rattle.command_frames.specs.Commanding.{isDue, commandFrame}
+use Rattle.command_frames.specs.Commanding as cmd
 use Rattle.channel_core.specs.declared.Channel.{Channel}
 use Rattle.channel_core.specs.Answers.{Answer}
 use Rattle.channel_core.specs.Answers as ans
-use Rattle.channel_core.specs.State.{withStatus, withSequencer, conditionLatched}
+use Rattle.channel_core.specs.State.{withStatus, withSequencer, withCommands, conditionLatched}
 
 -- ---- Start
 
@@ -46,7 +50,7 @@ userChanged c = withSequencer (withStatus c (earlyEnded (c .status) (c .sequence
 -- ---- Group End
 
 -- "Group End (event, or Commands D2), armed or not: latch EE ..; idle; ..; readback buffers switch, the new one empty; users with Switch D0
--- set switch and the bits clear; the setpoint count is shown, then cleared; latch GE."
+-- set switch and the bits clear; the setpoint count is shown, then cleared; latch GE." A command frame that waits for it is due.
 unfoldable pub groupEnded : Channel → Channel
 groupEnded c =
     record {
@@ -54,6 +58,7 @@ groupEnded c =
       registers = reg.groupEnded (c .registers) (c .sequencer .count);
       sequencer = seq.groupEnded (c .sequencer);
       readbacks = rb.groupEnded (c .readbacks);
+      commands = cmd.groupEnded (c .commands);
     }
 
 -- "02000000h goes after the stored readbacks if there is space (bench)", before the buffers switch
@@ -132,11 +137,27 @@ abbrev pub sendFrame : ℕ → Transmission → Answer
 sendFrame id transmission.Nothing = ans.none
 sendFrame id (transmission.Word word k) = ans.frame (encoded id (word % 65536) 0)
 
+-- a setpoint leaves
+abbrev pub isSetpoint : Transmission → Bool
+isSetpoint transmission.Nothing = false
+isSetpoint (transmission.Word word k) = true
+
+-- the command frame that is due, or none
+abbrev pub commandAnswer : CommandFrames → Answer
+commandAnswer f = cond (isDue (f .waiting)) (ans.frame (commandFrame f)) ans.none
+
+-- the frame of a tick: the setpoint's, and where none leaves the command frame that is due, or none
+abbrev pub tickLine : ℕ → CommandFrames → Transmission → Answer
+tickLine id f transmission.Nothing = commandAnswer f
+tickLine id f (transmission.Word word k) = sendFrame id (transmission.Word word k)
+
 -- "tick (1 µs)": the channel after it
 unfoldable pub tickOf : Channel → List ℕ → ℕ → ℕ → Channel
 tickOf c s n user =
-    withSequencer (withStatus c (sendStatus (c .status) (playedOf c s n user .transmission))) (playedOf c s n user .sequencer)
+    withCommands
+    (withSequencer (withStatus c (sendStatus (c .status) (playedOf c s n user .transmission))) (playedOf c s n user .sequencer))
+    (cmd.ticked (c .commands) (isSetpoint (playedOf c s n user .transmission)))
 
--- "A tick answers with each channel's frame or none."
+-- "A tick answers with each channel's frame or none." Never two: `NeverTogether` (histories).
 unfoldable pub tickAnswer : Channel → List ℕ → ℕ → ℕ → Answer
-tickAnswer c s n user = sendFrame (c .registers .id) (playedOf c s n user .transmission)
+tickAnswer c s n user = tickLine (c .registers .id) (c .commands) (playedOf c s n user .transmission)

@@ -3,6 +3,8 @@
 --   "both Main bits"                         status .interrupt .main, status .polling .main
 --   armed, idle, ticks, index, word, last send, replies, last word went, setpoint count    sequencer (crate `sequencer`)
 --   "both stored readback counts"            readbacks (crate `readback`)
+-- Document 02, card 1: "A channel's solitary definition now has these registers."
+--   E0–FE, the frame that waits, whether replies go to E4–FA    commands (crate `command_frames`)
 use Prim.Native.Nat.{ℕ}
 use Rattle.status.specs.declared.Status.{Status}
 use Rattle.status.specs.Latching as st
@@ -12,29 +14,35 @@ use Rattle.sequencer.specs.declared.Sequencer.{Sequencer}
 use Rattle.sequencer.specs.Playing as seq
 use Rattle.readback.specs.declared.Readbacks.{Readbacks}
 use Rattle.readback.specs.Storing as rb
+use Rattle.command_frames.specs.declared.CommandFrames.{CommandFrames}
+use Rattle.command_frames.specs.Commanding as cmd
 use Rattle.channel_core.specs.declared.Channel.{Channel}
 
 -- "all registers 0, channels disarmed, .. buffers 1 active, no readbacks"
 unfoldable pub opened : Channel
 opened =
-    record { status = st.opened; registers = reg.opened; sequencer = seq.opened; readbacks = rb.opened }
+    record { status = st.opened; registers = reg.opened; sequencer = seq.opened; readbacks = rb.opened; commands = cmd.opened }
 
 -- "Reset D0 returns that channel to its opening state; lent words and its Main bits stay (bench)."
 unfoldable pub reset : Channel → Channel
 reset c =
-    record { status = st.reset (c .status); registers = reg.opened; sequencer = seq.opened; readbacks = rb.opened }
+    record { status = st.reset (c .status); registers = reg.opened; sequencer = seq.opened; readbacks = rb.opened; commands = cmd.opened }
 
 abbrev pub withStatus : Channel → Status → Channel
-withStatus c s = record { status = s; registers = c .registers; sequencer = c .sequencer; readbacks = c .readbacks }
+withStatus c s = record { status = s; registers = c .registers; sequencer = c .sequencer; readbacks = c .readbacks; commands = c .commands }
 
 abbrev pub withRegisters : Channel → Registers → Channel
-withRegisters c r = record { status = c .status; registers = r; sequencer = c .sequencer; readbacks = c .readbacks }
+withRegisters c r = record { status = c .status; registers = r; sequencer = c .sequencer; readbacks = c .readbacks; commands = c .commands }
 
 abbrev pub withSequencer : Channel → Sequencer → Channel
-withSequencer c s = record { status = c .status; registers = c .registers; sequencer = s; readbacks = c .readbacks }
+withSequencer c s = record { status = c .status; registers = c .registers; sequencer = s; readbacks = c .readbacks; commands = c .commands }
 
 abbrev pub withReadbacks : Channel → Readbacks → Channel
-withReadbacks c b = record { status = c .status; registers = c .registers; sequencer = c .sequencer; readbacks = b }
+withReadbacks c b = record { status = c .status; registers = c .registers; sequencer = c .sequencer; readbacks = b; commands = c .commands }
+
+abbrev pub withCommands : Channel → CommandFrames → Channel
+withCommands c f =
+    record { status = c .status; registers = c .registers; sequencer = c .sequencer; readbacks = c .readbacks; commands = f }
 
 -- a condition happens
 abbrev pub conditionLatched : Channel → ℕ → Channel

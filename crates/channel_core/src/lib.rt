@@ -1,5 +1,6 @@
 // A channel's life: Start, Group End, events and commands, user changes and ticks, over the channel's own part of the lent memory.
 // It knows no board and no other channel.
+use command_frames::CommandFrames;
 use readback::Readbacks;
 use refusal::Refusal;
 use registers::Registers;
@@ -13,13 +14,14 @@ ghost use Rattle.frame.specs.Frames.{encoded};
 ghost use Rattle.status.specs.Bits.{bitOf};
 ghost use Rattle.channel_core.specs.Answers.{lineOf};
 ghost use Rattle.channel_core.specs.State.{opened, reset};
-ghost use Rattle.channel_core.specs.Behaviour.{started, earlyEnded, userChanged, groupEnded, endedIf, endedWords, startedIf, resumedIf, resumedOn, eventOf, eventWords, commanded, commandWords, setpointPlace, dueOf, sendStatus, sendFrame, tickOf, tickAnswer};
+ghost use Rattle.channel_core.specs.Behaviour.{started, earlyEnded, userChanged, groupEnded, endedIf, endedWords, startedIf, resumedIf, resumedOn, eventOf, eventWords, commanded, commandWords, setpointPlace, dueOf, sendStatus, isSetpoint, commandAnswer, tickLine, tickOf, tickAnswer};
 
 pub struct Channel {
     pub status: Status,
     pub registers: Registers,
     pub sequencer: Sequencer,
     pub readbacks: Readbacks,
+    pub commands: CommandFrames,
 }
 
 // The answer of a tick: a frame, or none.
@@ -89,12 +91,35 @@ pub fn setpoint_frame(id: u8, word: u32) -> u64
     frame::encode(id, (word % 65536) as u16, 0)
 }
 
-// The frame of what a tick sends, or none.
-fn send_line(id: u8, sent: Transmission) -> Line
-    ensures { λ r. ⌜ lineOf r ≡ sendFrame id sent ⌝ }
+// Whether a tick sends a setpoint.
+fn sends(sent: Transmission) -> bool
+    ensures { λ r. ⌜ r ≡ isSetpoint sent ⌝ }
 {
     match sent {
-        Transmission::Nothing => Line::Silent,
+        Transmission::Nothing => false,
+        Transmission::Word {
+            word: _,
+            condition: _,
+        } => true,
+    }
+}
+
+// The command frame that is due, or none.
+fn command_line(commands: CommandFrames) -> Line
+    ensures { λ r. ⌜ lineOf r ≡ commandAnswer commands ⌝ }
+{
+    if commands.is_due() {
+        return Line::Frame(commands.frame());
+    }
+    Line::Silent
+}
+
+// The frame of what a tick sends: a setpoint, a command frame, or none.
+fn send_line(id: u8, commands: CommandFrames, sent: Transmission) -> Line
+    ensures { λ r. ⌜ lineOf r ≡ tickLine id commands sent ⌝ }
+{
+    match sent {
+        Transmission::Nothing => command_line(commands),
         Transmission::Word { word, condition: _ } => Line::Frame(setpoint_frame(id, word)),
     }
 }
@@ -108,6 +133,7 @@ impl Channel {
             registers: Registers::opened(),
             sequencer: Sequencer::opened(),
             readbacks: Readbacks::opened(),
+            commands: CommandFrames::opened(),
         }
     }
 
@@ -121,6 +147,7 @@ impl Channel {
             registers: Registers::opened(),
             sequencer: Sequencer::opened(),
             readbacks: Readbacks::opened(),
+            commands: CommandFrames::opened(),
         }
     }
 
@@ -160,11 +187,13 @@ impl Channel {
         let registers = self.registers;
         let sequencer = self.sequencer;
         let readbacks = self.readbacks;
+        let commands = self.commands;
         Channel {
             status: early_ended(status, sequencer).latched(status::GROUP_END),
             registers: registers.group_ended(sequencer.count),
             sequencer: sequencer.group_ended(),
             readbacks: readbacks.group_ended(),
+            commands: commands.group_ended(),
         }
     }
 
@@ -248,13 +277,14 @@ impl Channel {
         word_at(setpoints, at)
     }
 
-    // One tick: the sequencer's, and what a send latches and shows.
+    // One tick: the sequencer's, what a send latches and shows, and a command frame that is due.
     pub fn tick(self, setpoints: &[u32], n: u32, user: u8) -> Ticked
         ensures { λ r. ⌜ (r .channel ≡ tickOf self (now (setpoints .entry)) n user) × (lineOf (r .line) ≡ tickAnswer self (now (setpoints .entry)) n user) ⌝ }
     {
         let registers = self.registers;
         let sequencer = self.sequencer;
         let status = self.status;
+        let commands = self.commands;
         let ticked = sequencer.tick(
             self.due(setpoints, n, user),
             n,
@@ -265,9 +295,10 @@ impl Channel {
         let mut c = self;
         c.status = send_status(status, sent);
         c.sequencer = next;
+        c.commands = commands.ticked(sends(sent));
         Ticked {
             channel: c,
-            line: send_line(registers.id, sent),
+            line: send_line(registers.id, commands, sent),
         }
     }
 }

@@ -8,7 +8,7 @@ ghost use mathlib.Core.Path.{_≡_};
 ghost use Rattle.refusal.specs.Refusals.{verdictNumber};
 ghost use Rattle.channel_core.specs.Answers.{outcomeOf};
 ghost use Rattle.channel_registers.specs.Answers.{readOutcomeOf};
-ghost use Rattle.channel_registers.specs.Calls.{registerRefusal, registerEffect, registerWords, writtenOf, writtenAnswer, writtenWords, readEffect, readValue, readOf, readAnswer};
+ghost use Rattle.channel_registers.specs.Calls.{functionActive, registerRefusal, registerEffect, registerWords, writtenOf, writtenAnswer, writtenWords, readEffect, readValue, readOf, readAnswer};
 
 // The answer of a register read.
 pub enum ReadOutcome {
@@ -26,13 +26,34 @@ pub struct Read {
     pub outcome: ReadOutcome,
 }
 
-// Whether a write at an offset is refused: the access, then the clock code.
-fn write_check(offset: u16, value: u16) -> Verdict
-    ensures { λ r. ⌜ verdictNumber r ≡ registerRefusal offset value ⌝ }
+// Whether a write is one to FC with D0, while the channel is disarmed or not idle.
+fn function_active(c: Channel, offset: u16, value: u16) -> bool
+    ensures { λ r. ⌜ r ≡ functionActive c offset value ⌝ }
+{
+    if offset != 0xfc {
+        return false;
+    }
+    if !status::is_set(value, 0) {
+        return false;
+    }
+    let sequencer = c.sequencer;
+    let stage = sequencer.stage;
+    if sequencer.armed {
+        return !sequencer::stages::is_idle(stage);
+    }
+    true
+}
+
+// Whether a write at an offset is refused: the access, then a function that is active, then the clock code.
+fn write_check(c: Channel, offset: u16, value: u16) -> Verdict
+    ensures { λ r. ⌜ verdictNumber r ≡ registerRefusal c offset value ⌝ }
 {
     let verdict = register_map::write_verdict(register_map::channel_access(offset));
     match verdict {
         Verdict::Allowed => {
+            if function_active(c, offset, value) {
+                return Verdict::Refused(Refusal::FunctionActive);
+            }
             if offset == 0x0a {
                 if 3 < value {
                     return Verdict::Refused(Refusal::InvalidClock);
@@ -63,6 +84,12 @@ fn write_effect(c: Channel, words: &mut [u32], m: u32, offset: u16, value: u16) 
     if offset == 0x08 {
         return c.command(words, m, value);
     }
+    if offset >= 0xe0 {
+        let commands = c.commands;
+        let mut next = c;
+        next.commands = commands.stored(offset, value);
+        return next;
+    }
     let registers = c.registers;
     let mut next = c;
     next.registers = registers.stored(offset, value);
@@ -70,9 +97,9 @@ fn write_effect(c: Channel, words: &mut [u32], m: u32, offset: u16, value: u16) 
 }
 
 pub fn write_register(c: Channel, words: &mut [u32], m: u32, offset: u16, value: u16) -> Written
-    ensures { λ r. ⌜ (r .channel ≡ writtenOf c offset value) × (outcomeOf (r .outcome) ≡ writtenAnswer offset value) × (now (words .exit) ≡ writtenWords c (now (words .entry)) m offset value) ⌝ }
+    ensures { λ r. ⌜ (r .channel ≡ writtenOf c offset value) × (outcomeOf (r .outcome) ≡ writtenAnswer c offset value) × (now (words .exit) ≡ writtenWords c (now (words .entry)) m offset value) ⌝ }
 {
-    let verdict = write_check(offset, value);
+    let verdict = write_check(c, offset, value);
     match verdict {
         Verdict::Allowed => Written {
             channel: write_effect(c, words, m, offset, value),
@@ -102,6 +129,10 @@ fn read_value(c: Channel, offset: u16) -> u16
         let latches = status.polling;
         let bits = latches.bits;
         return status::word_of_bits(bits);
+    }
+    if offset >= 0xe0 {
+        let commands = c.commands;
+        return commands.loaded(offset);
     }
     let registers = c.registers;
     registers.loaded(offset)

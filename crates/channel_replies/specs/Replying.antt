@@ -1,4 +1,5 @@
 -- Document 01, 'A channel's life': what a reply does to a channel, over the channel's own 2 × M readback words, and what it is answered.
+-- Document 02, card 1: replies to a command frame.
 use Prim.Native.Nat.{ℕ}
 use mathlib.Core.Bool.{Bool, cond, not}
 use mathlib.Core.List.{List}
@@ -10,10 +11,11 @@ use Rattle.sequencer.specs.Playing.{isIdle, answered}
 use Rattle.readback.specs.declared.Disposition.{Disposition}
 use Rattle.readback.specs.declared.Disposition.the-variants as disposition
 use Rattle.readback.specs.Storing.{dispositionOf, storedWord, keptIn, keptWords}
+use Rattle.command_frames.specs.Commanding.{takes, received}
 use Rattle.channel_core.specs.declared.Channel.{Channel}
 use Rattle.channel_core.specs.Answers.{Answer}
 use Rattle.channel_core.specs.Answers as ans
-use Rattle.channel_core.specs.State.{withStatus, withSequencer, withReadbacks}
+use Rattle.channel_core.specs.State.{withStatus, withSequencer, withReadbacks, withCommands}
 
 -- what becomes of a well-framed reply
 unfoldable pub dispositionNow : Channel → ℕ → Disposition
@@ -45,19 +47,26 @@ receivedWords disposition.Unsolicited c s m word = s
 receivedWords disposition.Lost c s m word = s
 receivedWords disposition.Kept c s m word = keptWords (c .readbacks) s (secondActive (c .registers) readbackPlace) m word
 
--- a reply by what its number is read as: refused 7, which changes nothing, or received with its fields
+-- "Up to six replies after it go to E4–FA, answered as kept and stored in no buffer": so the CRC is checked, and nothing else moves
+abbrev pub commandReply : Channel → Bool → ℕ → ℕ → Channel
+commandReply c right id word = withCommands (withStatus c (crcStatus (c .status) right)) (received (c .commands) (not right) id word)
+
+-- a reply by what its number is read as: refused 7, which changes nothing; or received with its fields, for a command frame where that takes it
 abbrev pub replyAnswerAs : Reading → Channel → ℕ → Answer
 replyAnswerAs (refused k) c m = ans.refused k
-replyAnswerAs (fields id word aux crc) c m = receiptAnswer (dispositionNow c m)
+replyAnswerAs (fields id word aux crc) c m = cond (takes (c .commands)) ans.kept (receiptAnswer (dispositionNow c m))
 
 abbrev pub replyAs : Reading → Channel → ℕ → Channel
 replyAs (refused k) c m = c
-replyAs (fields id word aux crc) c m = receivedChannel (dispositionNow c m) c m (crcRight id word aux crc)
+replyAs (fields id word aux crc) c m =
+    cond (takes (c .commands)) (commandReply c (crcRight id word aux crc) id word)
+    (receivedChannel (dispositionNow c m) c m (crcRight id word aux crc))
 
 abbrev pub replyWordsAs : Reading → Channel → List ℕ → ℕ → ℕ → List ℕ
 replyWordsAs (refused k) c s m user = s
 replyWordsAs (fields id word aux crc) c s m user =
-    receivedWords (dispositionNow c m) c s m (storedWord (c .sequencer .last) user (not (crcRight id word aux crc)) id word)
+    cond (takes (c .commands)) s
+    (receivedWords (dispositionNow c m) c s m (storedWord (c .sequencer .last) user (not (crcRight id word aux crc)) id word))
 
 -- a reply: what it is answered, the channel after it, and its readback words
 unfoldable pub replyAnswer : Channel → ℕ → ℕ → Answer

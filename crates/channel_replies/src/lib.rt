@@ -8,7 +8,7 @@ ghost use mathlib.Core.Path.{_≡_};
 ghost use mathlib.Core.Bool.{not};
 ghost use Rattle.readback.specs.Storing.{storedWord};
 ghost use Rattle.channel_replies.specs.Answers.{receiptOf};
-ghost use Rattle.channel_replies.specs.Replying.{dispositionNow, crcStatus, replyCounted, receivedChannel, receiptAnswer, receivedWords, replyAnswer, replyOf, replyWords};
+ghost use Rattle.channel_replies.specs.Replying.{dispositionNow, crcStatus, replyCounted, receivedChannel, receiptAnswer, receivedWords, commandReply, replyAnswer, replyOf, replyWords};
 
 // The answer of a reply.
 pub enum Receipt {
@@ -95,7 +95,19 @@ fn receive(
     }
 }
 
-// A reply from the supply.
+// A reply that goes to E4-FA; its CRC is checked.
+fn command_reply(c: Channel, id: u8, data: u16, right: bool) -> Channel
+    ensures { λ r. ⌜ r ≡ commandReply c right id «data» ⌝ }
+{
+    let status = c.status;
+    let commands = c.commands;
+    let mut next = c;
+    next.status = crc_checked(status, right);
+    next.commands = commands.received(!right, id, data);
+    next
+}
+
+// A reply from the supply: to a command frame, as long as that takes it, else to a setpoint.
 pub fn reply(c: Channel, words: &mut [u32], m: u32, user: u8, frame: u64) -> Received
     ensures { λ r. ⌜ (r .channel ≡ replyOf c m frame) × (receiptOf (r .receipt) ≡ replyAnswer c m frame) × (now (words .exit) ≡ replyWords c (now (words .entry)) m user frame) ⌝ }
 {
@@ -112,6 +124,13 @@ pub fn reply(c: Channel, words: &mut [u32], m: u32, user: u8, frame: u64) -> Rec
             crc,
         } => {
             let right = frame::crc_matches(id, data, auxiliary, crc);
+            let commands = c.commands;
+            if commands.takes() {
+                return Received {
+                    channel: command_reply(c, id, data, right),
+                    receipt: Receipt::Kept,
+                };
+            }
             receive(c, words, m, user, id, data, right)
         }
     }

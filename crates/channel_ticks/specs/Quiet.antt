@@ -7,6 +7,8 @@ use Rattle.sequencer.specs.declared.Stage.{Stage}
 use Rattle.sequencer.specs.declared.Stage.the-variants as stage
 use Rattle.sequencer.specs.declared.Sequencer.{Sequencer}
 use Rattle.sequencer.specs.Playing.{withLeft, withResume}
+use Rattle.command_frames.specs.Commanding.{isDue}
+use Rattle.channel_core.specs.declared.Channel.{Channel}
 
 -- idle, every tick is quiet: as many as 32 bits count
 abbrev pub idleTicks : ℕ
@@ -23,6 +25,10 @@ quietAt stage.Ended s = s .left - 1
 
 unfoldable pub quietTicks : Sequencer → ℕ
 quietTicks s = quietAt (s .stage) s
+
+-- of a channel: a tick on which a command frame leaves is not quiet
+unfoldable pub channelQuietTicks : Channel → ℕ
+channelQuietTicks c = cond (isDue (c .commands .waiting)) 0 (quietTicks (c .sequencer))
 
 -- the countdowns lowered by k at once; that to the next repeat stands still through a resume's silent ticks
 abbrev pub afterQuietAt : Stage → Sequencer → ℕ → Sequencer

@@ -1,9 +1,10 @@
 -- Document 01, 'A channel's life': ticks in a row of a channel by itself, nothing else happening meanwhile: the channel after them, and the
 -- frames that they answer.
-use Prim.Native.Nat.{ℕ, zero, suc, _+_}
+use Prim.Native.Nat.{ℕ, zero, suc, _+_, min}
 use mathlib.Core.Bool.{cond}
 use mathlib.Core.List.{List}
 use lib.ListN.{set}
+use Rattle.command_frames.specs.Commanding.{isDue}
 use Rattle.channel_core.specs.declared.Channel.{Channel}
 use Rattle.channel_core.specs.Answers.{Answer, isFrame}
 use Rattle.channel_core.specs.Answers as ans
@@ -37,3 +38,7 @@ withFrame (ans.other r) at l = l
 unfoldable pub framesAt : Channel → List ℕ → ℕ → ℕ → ℕ → List ℕ → List ℕ
 framesAt c s n user zero l = l
 framesAt c s n user (suc k) l = withFrame (answerAfter c s n user k) k (framesAt c s n user k l)
+
+-- of so many ticks, those that come first where a command frame is due: one, if there is one
+abbrev pub commandTicks : Channel → ℕ → ℕ
+commandTicks c count = cond (isDue (c .commands .waiting)) (min count 1) 0

@@ -2,6 +2,7 @@
 pub mod quiet;
 
 use channel_core::Channel;
+use channel_core::Line;
 use channel_core::send_status;
 use channel_core::setpoint_frame;
 use channel_core::setpoint_place;
@@ -16,10 +17,13 @@ ghost use lib.ListN.{set};
 ghost use Rattle.frame.specs.Frames.{encoded};
 ghost use Rattle.sequencer.specs.Playing.{ticked};
 ghost use Rattle.sequencer.specs.Runs.{asNumber};
-ghost use Rattle.channel_core.specs.State.{withStatus, withSequencer};
-ghost use Rattle.channel_core.specs.Behaviour.{sendStatus, sendFrame};
+ghost use mathlib.Core.Bool.{cond, false};
+ghost use Rattle.command_frames.specs.Commanding.{withReceiving};
+ghost use Rattle.channel_core.specs.Answers.{isFrame, lineOf};
+ghost use Rattle.channel_core.specs.State.{withStatus, withSequencer, withCommands};
+ghost use Rattle.channel_core.specs.Behaviour.{sendStatus, isSetpoint, sendFrame};
 ghost use Rattle.channel_ticks.specs.Quiet.{afterQuiet};
-ghost use Rattle.channel_ticks.specs.Ticks.{ticksOf, framesIn, withFrame, framesAt};
+ghost use Rattle.channel_ticks.specs.Ticks.{ticksOf, framesIn, withFrame, framesAt, commandTicks};
 
 // A channel after ticks in a row, and how many of them answered a frame.
 pub struct Advanced {
@@ -27,11 +31,59 @@ pub struct Advanced {
     pub frames: u32,
 }
 
-// What ticks change of a channel, and the frames so far.
+// A channel after the tick of a command frame that was due, if one was: so many ticks, and so many frames.
+struct Begun {
+    pub channel: Channel,
+    pub ticks: u32,
+    pub frames: u32,
+}
+
+// What the ticks after that change of a channel, and the frames so far. Command frames as a whole would slow the loop down.
 struct Progress {
     pub status: Status,
     pub sequencer: Sequencer,
+    // Whether replies go to E4-FA.
+    pub receiving: bool,
     pub frames: u32,
+}
+
+// The frame of a line put at the first place, and how many it is.
+fn capture_line(captured: &mut [u64], line: Line) -> u32
+    ensures { λ r. ⌜ (r ≡ cond (isFrame (lineOf line)) 1 0) × (now (captured .exit) ≡ withFrame (lineOf line) 0 (now (captured .entry))) ⌝ }
+{
+    match line {
+        Line::Silent => 0,
+        Line::Frame(frame) => {
+            if 0 < captured.len() {
+                captured[0] = frame;
+            }
+            1
+        }
+    }
+}
+
+// The tick of a command frame that is due, if one is: after it none is, however many ticks follow.
+fn begin(c: Channel, setpoints: &[u32], n: u32, user: u8, count: u32, captured: &mut [u64]) -> Begun
+    ensures { λ r. ⌜ (r .ticks ≡ commandTicks c count) × (r .channel ≡ ticksOf c (now (setpoints .entry)) n user (commandTicks c count)) × (r .frames ≡ framesIn c (now (setpoints .entry)) n user (commandTicks c count)) × (now (captured .exit) ≡ framesAt c (now (setpoints .entry)) n user (commandTicks c count) (now (captured .entry))) ⌝ }
+{
+    let commands = c.commands;
+    if commands.is_due() {
+        if 0 < count {
+            let ticked = c.tick(setpoints, n, user);
+            let next = ticked.channel;
+            let line = ticked.line;
+            return Begun {
+                channel: next,
+                ticks: 1,
+                frames: capture_line(captured, line),
+            };
+        }
+    }
+    Begun {
+        channel: c,
+        ticks: 0,
+        frames: 0,
+    }
 }
 
 // A frame put at its place; past the end none is kept, and none is worked out.
@@ -54,7 +106,7 @@ fn tick(
     id: u8,
 ) -> Progress
     requires { ⌜ progress .frames < 4294967295 ⌝ }
-    ensures { λ r. ⌜ (r .status ≡ sendStatus (progress .status) (ticked (progress .sequencer) due n period .transmission)) × (r .sequencer ≡ ticked (progress .sequencer) due n period .sequencer) × (r .frames ≡ progress .frames + asNumber (ticked (progress .sequencer) due n period .transmission)) × (now (captured .exit) ≡ withFrame (sendFrame id (ticked (progress .sequencer) due n period .transmission)) at (now (captured .entry))) ⌝ }
+    ensures { λ r. ⌜ (r .status ≡ sendStatus (progress .status) (ticked (progress .sequencer) due n period .transmission)) × (r .sequencer ≡ ticked (progress .sequencer) due n period .sequencer) × (r .receiving ≡ cond (isSetpoint (ticked (progress .sequencer) due n period .transmission)) false (progress .receiving)) × (r .frames ≡ progress .frames + asNumber (ticked (progress .sequencer) due n period .transmission)) × (now (captured .exit) ≡ withFrame (sendFrame id (ticked (progress .sequencer) due n period .transmission)) at (now (captured .entry))) ⌝ }
 {
     let sequencer = progress.sequencer;
     let status = progress.status;
@@ -66,6 +118,7 @@ fn tick(
         Transmission::Nothing => Progress {
             status: latched,
             sequencer: next,
+            receiving: progress.receiving,
             frames: progress.frames,
         },
         Transmission::Word { word, condition: _ } => {
@@ -73,6 +126,7 @@ fn tick(
             Progress {
                 status: latched,
                 sequencer: next,
+                receiving: false,
                 frames: progress.frames + 1,
             }
         }
@@ -81,7 +135,7 @@ fn tick(
 
 // So many quiet ticks.
 fn skip(progress: Progress, count: u64) -> Progress
-    ensures { λ r. ⌜ (r .status ≡ progress .status) × (r .sequencer ≡ afterQuiet (progress .sequencer) count) × (r .frames ≡ progress .frames) ⌝ }
+    ensures { λ r. ⌜ (r .status ≡ progress .status) × (r .sequencer ≡ afterQuiet (progress .sequencer) count) × (r .receiving ≡ progress .receiving) × (r .frames ≡ progress .frames) ⌝ }
 {
     let sequencer = progress.sequencer;
     let mut next = progress;
@@ -89,28 +143,34 @@ fn skip(progress: Progress, count: u64) -> Progress
     next
 }
 
-// A channel before the first of them.
-fn begin(c: Channel) -> Progress
-    ensures { λ r. ⌜ (r .status ≡ c .status) × (r .sequencer ≡ c .sequencer) × (r .frames ≡ 0) ⌝ }
+// Before the first of the ticks after that.
+fn advance(begun: Begun) -> Progress
+    ensures { λ r. ⌜ (r .status ≡ begun .channel .status) × (r .sequencer ≡ begun .channel .sequencer) × (r .receiving ≡ begun .channel .commands .receiving) × (r .frames ≡ begun .frames) ⌝ }
 {
+    let c = begun.channel;
     let status = c.status;
     let sequencer = c.sequencer;
+    let commands = c.commands;
     Progress {
         status: status,
         sequencer: sequencer,
-        frames: 0,
+        receiving: commands.receiving,
+        frames: begun.frames,
     }
 }
 
 // A channel after the last of them.
 fn finish(c: Channel, progress: Progress) -> Advanced
-    ensures { λ r. ⌜ (r .channel ≡ withSequencer (withStatus c (progress .status)) (progress .sequencer)) × (r .frames ≡ progress .frames) ⌝ }
+    ensures { λ r. ⌜ (r .channel ≡ withCommands (withSequencer (withStatus c (progress .status)) (progress .sequencer)) (withReceiving (c .commands) (progress .receiving))) × (r .frames ≡ progress .frames) ⌝ }
 {
     let status = progress.status;
     let sequencer = progress.sequencer;
+    let mut commands = c.commands;
+    commands.receiving = progress.receiving;
     let mut next = c;
     next.status = status;
     next.sequencer = sequencer;
+    next.commands = commands;
     Advanced {
         channel: next,
         frames: progress.frames,
@@ -128,13 +188,15 @@ pub fn ticks(
 ) -> Advanced
     ensures { λ r. ⌜ (r .channel ≡ ticksOf c (now (setpoints .entry)) n user count) × (r .frames ≡ framesIn c (now (setpoints .entry)) n user count) × (now (captured .exit) ≡ framesAt c (now (setpoints .entry)) n user count (now (captured .entry))) ⌝ }
 {
-    let registers = c.registers;
+    let begun = begin(c, setpoints, n, user, count, captured);
+    let first = begun.channel;
+    let registers = first.registers;
     let id = registers.id;
     let at = registers::zero_based(user);
     let second = registers.second_active(user);
     let period = registers::period(registers.clock);
-    let mut progress = begin(c);
-    let mut done: u32 = 0;
+    let mut progress = advance(begun);
+    let mut done = begun.ticks;
     while done < count {
         let sequencer = progress.sequencer;
         let quiet = least(quiet::quiet_ticks(sequencer), (count - done) as u64);
@@ -147,5 +209,5 @@ pub fn ticks(
             done += 1;
         }
     }
-    finish(c, progress)
+    finish(first, progress)
 }

@@ -1,10 +1,11 @@
 // Ticks that only count down: how many of the next ones are so, and the state after so many of them at once.
+use channel_core::Channel;
 use sequencer::Sequencer;
 use sequencer::Stage;
 ghost use mathlib.Core.Path.{_≡_};
 ghost use Prim.Native.Nat.{_-_, min};
 ghost use Rattle.sequencer.specs.Playing.{withLeft};
-ghost use Rattle.channel_ticks.specs.Quiet.{quietTicks, afterQuiet};
+ghost use Rattle.channel_ticks.specs.Quiet.{quietTicks, channelQuietTicks, afterQuiet};
 
 // A countdown so many ticks later.
 fn lowered(count: u64, ticks: u64) -> u64
@@ -46,6 +47,18 @@ pub fn quiet_ticks(sequencer: Sequencer) -> u64
         }
         Stage::Ended => lowered(left, 1),
     }
+}
+
+// The same of a channel: a tick with a command frame is not quiet.
+pub fn channel_quiet_ticks(c: Channel) -> u64
+    ensures { λ r. ⌜ r ≡ channelQuietTicks c ⌝ }
+{
+    let commands = c.commands;
+    let sequencer = c.sequencer;
+    if commands.is_due() {
+        return 0;
+    }
+    quiet_ticks(sequencer)
 }
 
 // The countdown to the next send so many ticks later.

@@ -1,5 +1,5 @@
 -- The rows of resume delays, by the laws of crate `timing`. Assumes nothing.
-use Prim.Native.Nat.{ℕ, _-_, _≤_, _<_}
+use Prim.Native.Nat.{ℕ, _+_, _-_, _≤_, _<_}
 use mathlib.Core.Path.{_≡_, refl, sym, ap, subst, subst₂, _∙_}
 use mathlib.Core.Bool.{Bool, true, false}
 use lib.Dec.{leb}
@@ -11,11 +11,10 @@ use Rattle.sequencer.specs.declared.Kind.{Kind}
 use Rattle.sequencer.specs.declared.Kind.the-variants as kind
 use Rattle.sequencer.specs.Words.{stageAfter, indexAfter}
 use Rattle.sequencer.specs.Runs.{kindAt, Beat}
-use Rattle.channel_core.specs.Answers as ans
 use Rattle.channel.specs.OneChannel.{OneChannel}
-use Rattle.timing.specs.Ticking.{after, onTick, wordAt, period, frameOf, Keeps, NextFrame, Resumes}
+use Rattle.timing.specs.Ticking.{after, onTick, wordAt, period, between, frameOf, Keeps, NextFrame, Resumes}
 use Rattle.timing.specs.Timing.{triggeredBy, delay}
-use Rattle.timing.proofs.Bridge.{after-keeps, keeps-on}
+use Rattle.timing.proofs.Bridge.{after-keeps, keeps-on, between-add}
 use Rattle.timing.proofs.Series.{same-period, same-frame, same-kind}
 use Rattle.timing.proofs.Timing.{timing}
 use Rattle.examples.specs.Starred.{PauseOne, started, resumed, tickOf, Resume25, Resume0}
@@ -77,22 +76,26 @@ module _ (o : OneChannel) (code : ℕ) (h : PauseOne o code) where
   on-beat d j e a b x =
       loaded d e .repeats j a b .on (subst₂ (λ (l p : ℕ). Beat l p j) (sym left-ten) (sym ten) x) ∙ repeated
 
-  off-beat : (d j : ℕ) → delay o 1 ≡ d → 1 ≤ j → j ≤ d → (Beat 10 10 j → ⊥) → onTick (resumed o code) j ≡ ans.none
+  off-beat : (d j : ℕ) → delay o 1 ≡ d → 1 ≤ j → j ≤ d → (Beat 10 10 j → ⊥) → onTick (resumed o code) j ≡ between (paused o) j
   off-beat d j e a b x = loaded d e .repeats j a b .off (λ y. x (subst₂ (λ (l p : ℕ). Beat l p j) left-ten ten y))
 
-  -- none on ticks 1 to 9; later ticks are those after the event
-  early : (t : ℕ) → 1 ≤ t → t < 10 → tickOf o code t ≡ ans.none
+  -- no setpoint on ticks 1 to 9; later ticks are those after the event
+  early : (t : ℕ) → 1 ≤ t → t < 10 → tickOf o code t ≡ between (started o) t
   early t a b = rw (le-leb t 10 (omega arith)) (starts .silent t a b)
 
   late : (t : ℕ) → 10 < t → tickOf o code t ≡ onTick (resumed o code) (t - 10)
   late t a = rw (lt-leb t 10 a)
 
-  between : (t : ℕ) → 1 ≤ t → (t ≡ 10 → ⊥) → (10 < t → onTick (resumed o code) (t - 10) ≡ ans.none) → tickOf o code t ≡ ans.none
-  between t a b f = go (leb t 10) refl
+  otherwise : (t : ℕ) → 1 ≤ t → (t ≡ 10 → ⊥) → (10 < t → onTick (resumed o code) (t - 10) ≡ between (paused o) (t - 10))
+      → tickOf o code t ≡ between (started o) t
+  otherwise t a b f = go (leb t 10) refl
     where
-      go : (x : Bool) → leb t 10 ≡ x → tickOf o code t ≡ ans.none
+      go : (x : Bool) → leb t 10 ≡ x → tickOf o code t ≡ between (started o) t
       go true e = early t a (omega (arith, leb-true t 10 e))
-      go false e = late t (leb-false t 10 e) ∙ f (leb-false t 10 e)
+      go false e =
+          let later = leb-false t 10 e in
+          let whole : 10 + (t - 10) ≡ t = omega arith in
+          late t later ∙ f later ∙ between-add (started o) 10 (t - 10) (omega arith) ∙ ap (between (started o)) whole
 
   pub resume-25 : delay o 1 ≡ 25 → Resume25 o code
   resume-25 e =
@@ -101,11 +104,11 @@ module _ (o : OneChannel) (code : ℕ) (h : PauseOne o code) where
         on-20 = on-beat 25 10 e (omega arith) (omega arith) (0, refl);
         on-30 = on-beat 25 20 e (omega arith) (omega arith) (1, refl);
         on-45 = loaded 25 e .sent ∙ frame-1;
-        others = λ t a b n10 n20 n30. between t a n10 (λ c. silent t b n20 n30 c (leb t 35) refl);
+        others = λ t a b n10 n20 n30. otherwise t a n10 (λ c. silent t b n20 n30 c (leb t 35) refl);
       }
     where
       silent : (t : ℕ) → t < 45 → (t ≡ 20 → ⊥) → (t ≡ 30 → ⊥) → 10 < t → (x : Bool) → leb t 35 ≡ x
-          → onTick (resumed o code) (t - 10) ≡ ans.none
+          → onTick (resumed o code) (t - 10) ≡ between (paused o) (t - 10)
       silent t b n20 n30 c true f =
           off-beat 25 (t - 10) e (omega arith) (omega (arith, leb-true t 35 f)) (λ (y : Beat 10 10 (t - 10)). omega (arith, y .1, leb-true t 35 f))
       silent t b n20 n30 c false f = loaded 25 e .silent (t - 10) (omega (arith, leb-false t 35 f)) (omega arith)
@@ -115,5 +118,5 @@ module _ (o : OneChannel) (code : ℕ) (h : PauseOne o code) where
       record {
         on-10 = frame-0;
         on-20 = loaded 0 e .sent ∙ frame-1;
-        others = λ t a b n10. between t a n10 (λ c. loaded 0 e .silent (t - 10) (omega arith) (omega arith));
+        others = λ t a b n10. otherwise t a n10 (λ c. loaded 0 e .silent (t - 10) (omega arith) (omega arith));
       }

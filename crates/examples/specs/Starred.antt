@@ -12,9 +12,8 @@ use Rattle.sequencer.specs.declared.LastSend.{LastSend}
 use Rattle.sequencer.specs.Words.{kindOf}
 use Rattle.readback.specs.Storing.{storedWord}
 use Rattle.channel_core.specs.Answers.{Answer}
-use Rattle.channel_core.specs.Answers as ans
 use Rattle.channel.specs.OneChannel.{OneChannel, transition}
-use Rattle.timing.specs.Ticking.{after, onTick, wordAt, frameOf, NextFrame}
+use Rattle.timing.specs.Ticking.{after, onTick, wordAt, between, frameOf, NextFrame}
 use Rattle.timing.specs.Timing.{command, eventCall, triggeredBy, delay, OnlyResumes}
 
 -- ---- Frames
@@ -37,7 +36,7 @@ pub record FrameRows : Type 0 where
 
 -- ---- Start delays
 
--- any armed channel, with this start delay for the current user, started by its event: no frame before this tick, and one on it
+-- any armed channel, with this start delay for the current user, started by its event: no setpoint before this tick, and the first on it
 abbrev pub FirstFrameOn : (delay tick : ℕ) → Type 0
 FirstFrameOn d tick =
     (o : OneChannel) (code : ℕ) → o .channel .sequencer .armed ≡ true → triggeredBy o startEvent code ≡ true → delay o 0 ≡ d
@@ -67,7 +66,8 @@ started o = transition o (command o 1)
 abbrev pub resumed : OneChannel → ℕ → OneChannel
 resumed o code = transition (after (started o) 10) (eventCall (after (started o) 10) code)
 
--- what tick t from the Start answers, with that event between ticks 10 and 11
+-- what tick t from the Start answers, with that event between ticks 10 and 11. Others than those named send no setpoint (`between`): they answer none,
+-- but for a command frame on the first, if one was due.
 abbrev pub tickOf : OneChannel → ℕ → ℕ → Answer
 tickOf o code t = cond (leb t 10) (onTick (started o) t) (onTick (resumed o code) (t - 10))
 
@@ -76,12 +76,12 @@ pub record Resume25 (o : OneChannel) (code : ℕ) : Type 0 where
   pub on-20 : tickOf o code 20 ≡ frameOf o (wordAt o 0)
   pub on-30 : tickOf o code 30 ≡ frameOf o (wordAt o 0)
   pub on-45 : tickOf o code 45 ≡ frameOf o (wordAt o 1)
-  pub others : (t : ℕ) → 1 ≤ t → t < 45 → (t ≡ 10 → ⊥) → (t ≡ 20 → ⊥) → (t ≡ 30 → ⊥) → tickOf o code t ≡ ans.none
+  pub others : (t : ℕ) → 1 ≤ t → t < 45 → (t ≡ 10 → ⊥) → (t ≡ 20 → ⊥) → (t ≡ 30 → ⊥) → tickOf o code t ≡ between (started o) t
 
 pub record Resume0 (o : OneChannel) (code : ℕ) : Type 0 where
   pub on-10 : tickOf o code 10 ≡ frameOf o (wordAt o 0)
   pub on-20 : tickOf o code 20 ≡ frameOf o (wordAt o 1)
-  pub others : (t : ℕ) → 1 ≤ t → t < 20 → (t ≡ 10 → ⊥) → tickOf o code t ≡ ans.none
+  pub others : (t : ℕ) → 1 ≤ t → t < 20 → (t ≡ 10 → ⊥) → tickOf o code t ≡ between (started o) t
 
 pub record ResumeRows : Type 0 where
   -- "resume delay 25 then loaded: repeats on 20 and 30, next word on 45"

@@ -3,13 +3,15 @@ use Prim.Native.Nat.{ℕ, _≤_}
 use mathlib.Core.Path.{_≡_, refl}
 use mathlib.Core.Bool.{Bool, true, false, cond, not, _&&_}
 use native.Mathlib.Omega.{arith}
-use lib.Dec.{eqb}
+use lib.Dec.{eqb, leb}
 use Rattle.status.specs.Bits.{bitAt}
-use Rattle.registers.specs.Map.{periodOf, triggersOf, groupEndEvent}
+use Rattle.registers.specs.Map.{periodOf, triggersOf, groupEndEvent, stored}
 use Rattle.sequencer.specs.declared.Sequencer.{Sequencer}
 use Rattle.sequencer.specs.Playing.{idled, disarmed}
 use Rattle.channel_core.specs.declared.Channel.{Channel}
-use Rattle.channel_core.specs.State.{reset}
+use Rattle.command_frames.specs.Commanding.{isDue, takes}
+use Rattle.command_frames.specs.Commanding as cmd
+use Rattle.channel_core.specs.State.{reset, withRegisters, withCommands}
 use Rattle.channel_core.specs.Answers.{Answer}
 use Rattle.channel_core.specs.Answers as ans
 use Rattle.channel_core.specs.Behaviour.{dueOf, tickOf, tickAnswer, userChanged}
@@ -19,45 +21,56 @@ use Rattle.channel.specs.OneChannel.{Query, ChannelCall, OneChannel, queryAnswe
 use Rattle.channel.specs.OneChannel as call
 use Rattle.histories.specs.History.{entry, asks, endsGroup, resets, stops}
 use Rattle.channel.proofs.Cases.{either}
+use Rattle.histories.proofs.Apart.{ApartIn, apart-nothing}
 use Rattle.histories.proofs.Keeps.{keeps-armed, keeps-event, keeps-command}
 use Rattle.histories.proofs.Cases.{by-offset}
 use Rattle.histories.proofs.Refusing.{by-refusal}
 use Rattle.histories.proofs.Steps.{Plain, Steps, keeps-steps, kept-steps, same-steps, idle-steps, tick-steps, reply-steps}
 
-reset-if : (n : ℕ) (c : Channel) (on : Bool) → Steps n (c .sequencer) ans.done false on false (cond on (reset c) c .sequencer)
+-- a channel with this sequencer
+abbrev Has : Sequencer → Channel → Type 0
+Has s c = c .sequencer ≡ s
+
+-- of a channel: its command frames say whether one is due and takes a reply
+abbrev StepsOf : ℕ → Channel → Answer → (ends again stops : Bool) → Sequencer → Type 0
+StepsOf n c a ends again stops t = Steps n (c .sequencer) a (isDue (c .commands .waiting)) (takes (c .commands)) ends again stops t
+
+reset-if : (n : ℕ) (c : Channel) (on : Bool) → StepsOf n c ans.done false on false (cond on (reset c) c .sequencer)
 unfolding reset
 reset-if n c true = idle-steps n (c .sequencer) false true
 reset-if n c false = same-steps n c ans.done (c .sequencer) (refl, refl) refl
 
+-- E0–FE and the registers that hold what is written leave the sequencer
+kept-register : (c : Channel) (offset value : ℕ)
+    → cond (leb 0xe0 offset) (withCommands c (cmd.stored (c .commands) offset value)) (withRegisters c (stored (c .registers) offset value)) .sequencer
+    ≡ c .sequencer
+kept-register c offset value = either (Has (c .sequencer)) (leb 0xe0 offset) refl refl
+
 register-steps : (n : ℕ) (c : Channel) (offset value : ℕ)
-    → Steps n (c .sequencer) ans.done (eqb offset 0x08 && bitAt value 2) (eqb offset 0x06 && bitAt value 0) false
+    → StepsOf n c ans.done (eqb offset 0x08 && bitAt value 2) (eqb offset 0x06 && bitAt value 0) false
     (registerEffect c offset value .sequencer)
 unfolding registerEffect
 register-steps n c offset value =
     by-offset
     (λ (x : ℕ).
-    Steps n (c .sequencer) ans.done (eqb x 0x08 && bitAt value 2) (eqb x 0x06 && bitAt value 0) false (registerEffect c x value .sequencer))
+    StepsOf n c ans.done (eqb x 0x08 && bitAt value 2) (eqb x 0x06 && bitAt value 0) false (registerEffect c x value .sequencer))
     offset
     (same-steps n c ans.done (c .sequencer) (refl, refl) refl)
     (reset-if n c (bitAt value 0))
     (keeps-steps n c ans.done (bitAt value 2) _ (refl, refl) (keeps-command c value))
-    (λ d e f. rw (d, e, f) (same-steps n c ans.done (c .sequencer) (refl, refl) refl))
+    (λ d e f. rw (d, e, f) (same-steps n c ans.done _ (refl, refl) (kept-register c offset value)))
 
 taken-sequencer : (c : Channel) (polling : Bool) → mainTaken c polling .sequencer ≡ c .sequencer
 unfolding mainTaken
 taken-sequencer c true = refl
 taken-sequencer c false = refl
 
--- a channel with this sequencer
-abbrev Has : Sequencer → Channel → Type 0
-Has s c = c .sequencer ≡ s
-
-read-sequencer : (c : Channel) (offset : ℕ) → readEffect c offset .sequencer ≡ c .sequencer
+pub read-sequencer : (c : Channel) (offset : ℕ) → readEffect c offset .sequencer ≡ c .sequencer
 unfolding readEffect
 read-sequencer c offset =
     either (Has (c .sequencer)) (eqb offset 0x02) refl (either (Has (c .sequencer)) (eqb offset 0x04) refl refl)
 
-main-sequencer : (c : Channel) (offset : ℕ) → mainRead c offset .sequencer ≡ c .sequencer
+pub main-sequencer : (c : Channel) (offset : ℕ) → mainRead c offset .sequencer ≡ c .sequencer
 main-sequencer c offset =
     either (Has (c .sequencer)) (eqb offset 0x28) (taken-sequencer c false)
     (either (Has (c .sequencer)) (eqb offset 0x2a) (taken-sequencer c true) refl)
@@ -75,12 +88,12 @@ query-plain : (o : OneChannel) (which : Query) → Plain (queryAnswer o which)
 query-plain o call.retired = (refl, refl)
 query-plain o call.retiredLength = (refl, refl)
 
-user-steps : (o : OneChannel) (user : ℕ) → Steps (o .n) (o .channel .sequencer) ans.done false false (not (eqb user (o .user))) (userChange o user .channel .sequencer)
+user-steps : (o : OneChannel) (user : ℕ) → StepsOf (o .n) (o .channel) ans.done false false (not (eqb user (o .user))) (userChange o user .channel .sequencer)
 unfolding userChanged idled
 user-steps o user = go (eqb user (o .user))
   where
     go : (b : Bool)
-        → Steps (o .n) (o .channel .sequencer) ans.done false false (not b)
+        → StepsOf (o .n) (o .channel) ans.done false false (not b)
         (cond b o (call.withUser (call.withChannel o (userChanged (o .channel))) user) .channel .sequencer)
     go true = same-steps (o .n) (o .channel) ans.done (o .channel .sequencer) (refl, refl) refl
     go false = idle-steps (o .n) (o .channel .sequencer) (o .channel .sequencer .armed) false
@@ -95,31 +108,31 @@ period-some clock = go (eqb clock 0) (eqb clock 1) (eqb clock 2)
     go false false false = omega arith
 
 -- what a call does that is not refused
-effect-steps : (o : OneChannel) (k : ChannelCall)
-    → Steps (o .n) (o .channel .sequencer) (answer o k) (asks o k .groupEnd) (asks o k .reset) (asks o k .idle) (effect o k .channel .sequencer)
+effect-steps : (o : OneChannel) (k : ChannelCall) → ApartIn (o .channel)
+    → StepsOf (o .n) (o .channel) (answer o k) (asks o k .groupEnd) (asks o k .reset) (asks o k .idle) (effect o k .channel .sequencer)
 unfolding effect answer armedOf disarmedOf disarmed idled tickOf tickAnswer
-effect-steps o (call.writeRegister lent offset value) = register-steps (o .n) (o .channel) offset value
-effect-steps o (call.readRegister offset) = same-steps (o .n) (o .channel) _ _ (refl, refl) (read-sequencer (o .channel) offset)
-effect-steps o (call.writeSetpoint lent user buffer index word) = same-steps (o .n) (o .channel) _ _ (refl, refl) refl
-effect-steps o call.arm = kept-steps (o .n) (o .channel) _ _ (refl, refl) (keeps-armed (o .channel .sequencer))
-effect-steps o call.disarm = idle-steps (o .n) (o .channel .sequencer) false false
-effect-steps o (call.reply lent f) = reply-steps (o .n) (o .channel) (o .m) f
-effect-steps o (call.query which one two) = same-steps (o .n) (o .channel) _ _ (query-plain o which) refl
-effect-steps o (call.tick lent) =
-    tick-steps (o .n) (o .channel .sequencer) (o .channel .registers .id) (dueOf (o .channel) (o .setpoints) (o .n) (o .user))
-    (periodOf (o .channel .registers .clock)) (period-some (o .channel .registers .clock))
-effect-steps o (call.event lent code) =
+effect-steps o (call.writeRegister lent offset value) p = register-steps (o .n) (o .channel) offset value
+effect-steps o (call.readRegister offset) p = same-steps (o .n) (o .channel) _ _ (refl, refl) (read-sequencer (o .channel) offset)
+effect-steps o (call.writeSetpoint lent user buffer index word) p = same-steps (o .n) (o .channel) _ _ (refl, refl) refl
+effect-steps o call.arm p = kept-steps (o .n) (o .channel) _ _ (refl, refl) (keeps-armed (o .channel .sequencer))
+effect-steps o call.disarm p = idle-steps (o .n) (o .channel .sequencer) false false
+effect-steps o (call.reply lent f) p = reply-steps (o .n) (o .channel) (o .m) f _
+effect-steps o (call.query which one two) p = same-steps (o .n) (o .channel) _ _ (query-plain o which) refl
+effect-steps o (call.tick lent) p =
+    tick-steps (o .n) (o .channel .sequencer) (o .channel .commands) _ (o .channel .registers .id) (dueOf (o .channel) (o .setpoints) (o .n) (o .user))
+    (periodOf (o .channel .registers .clock)) (period-some (o .channel .registers .clock)) (apart-nothing (o .channel) (o .setpoints) (o .n) (o .user) p)
+effect-steps o (call.event lent code) p =
     keeps-steps (o .n) (o .channel) _ (triggersOf (o .channel .registers) groupEndEvent code) _ (refl, refl)
     (keeps-event (o .channel) (o .user) code)
-effect-steps o (call.changeUser user) = user-steps o user
-effect-steps o (call.writeMain lent offset value) = same-steps (o .n) (o .channel) _ _ (refl, refl) refl
-effect-steps o (call.readMain offset) =
+effect-steps o (call.changeUser user) p = user-steps o user
+effect-steps o (call.writeMain lent offset value) p = same-steps (o .n) (o .channel) _ _ (refl, refl) refl
+effect-steps o (call.readMain offset) p =
     same-steps (o .n) (o .channel) _ _ (main-plain (o .channel) offset) (main-sequencer (o .channel) offset)
 
 -- any call
-pub steps : (o : OneChannel) (k : ChannelCall)
-    → Steps (o .n) (o .channel .sequencer) (response o k) (endsGroup (entry o k)) (resets (entry o k)) (stops (entry o k)) (transition o k .channel .sequencer)
-steps o k =
-    by-refusal (λ (x : OneChannel) (a : Answer) (b c d : Bool). Steps (o .n) (o .channel .sequencer) a b c d (x .channel .sequencer)) o k
-    (λ e. effect-steps o k)
+pub steps : (o : OneChannel) (k : ChannelCall) → ApartIn (o .channel)
+    → StepsOf (o .n) (o .channel) (response o k) (endsGroup (entry o k)) (resets (entry o k)) (stops (entry o k)) (transition o k .channel .sequencer)
+steps o k p =
+    by-refusal (λ (x : OneChannel) (a : Answer) (b c d : Bool). StepsOf (o .n) (o .channel) a b c d (x .channel .sequencer)) o k
+    (λ e. effect-steps o k p)
     (same-steps (o .n) (o .channel) _ _ (refl, refl) refl)

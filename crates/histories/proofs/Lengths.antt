@@ -11,6 +11,7 @@ use Rattle.status.specs.Bits.{bitAt}
 use Rattle.registers.specs.Map.{triggersOf, groupEndEvent}
 use Rattle.readback.specs.declared.Disposition.{Disposition}
 use Rattle.readback.specs.declared.Disposition.the-variants as disposition
+use Rattle.command_frames.specs.Commanding.{takes}
 use Rattle.channel_core.specs.declared.Channel.{Channel}
 use Rattle.channel_core.specs.Behaviour.{groupWords, endedWords, eventWords, commandWords}
 use Rattle.channel_replies.specs.Replying.{dispositionNow, receivedWords, replyWordsAs, replyWords}
@@ -37,7 +38,7 @@ module _ (c : Channel) (s : List ℕ) where
 
   pub written-length : (m offset value : ℕ) → SameLength s (writtenWords c s m offset value)
   unfolding writtenWords
-  written-length m offset value = either (SameLength s) (eqb (registerRefusal offset value) 0) (register-length m offset value) refl
+  written-length m offset value = either (SameLength s) (eqb (registerRefusal c offset value) 0) (register-length m offset value) refl
 
   pub setpoint-length : (n user buffer index word : ℕ) → SameLength s (setpointWords c s n user buffer index word)
   unfolding setpointWords
@@ -55,4 +56,5 @@ module _ (c : Channel) (s : List ℕ) where
     where
       go : (g : Reading) → SameLength s (replyWordsAs g c s m user)
       go (frame.refused k) = refl
-      go (frame.fields id word aux crc) = received-length (dispositionNow c m) m _
+      go (frame.fields id word aux crc) =
+          either (SameLength s) (takes (c .commands)) refl (received-length (dispositionNow c m) m _)

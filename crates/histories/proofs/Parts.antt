@@ -1,7 +1,7 @@
--- Status, registers and stored readback counts stay in range through what a channel does. Assumes nothing.
-use Prim.Native.Nat.{ℕ, zero, suc, _≤_}
+-- Status, registers, stored readback counts and command frames stay in range through what a channel does. Assumes nothing.
+use Prim.Native.Nat.{ℕ, zero, suc, _+_, _≤_}
 use mathlib.Core.Path.{_≡_, refl, sym, _∙_, ap}
-use mathlib.Core.Bool.{Bool, true, false}
+use mathlib.Core.Bool.{Bool, true, false, not, _&&_}
 use mathlib.Core.List.{List, [], _∷_}
 use native.Mathlib.Omega.{arith}
 use lib.ListN.{length, getD, set, replicate, length-set}
@@ -23,14 +23,18 @@ use Rattle.readback.specs.declared.Readbacks.{Readbacks}
 use Rattle.readback.specs.declared.Disposition.{Disposition}
 use Rattle.readback.specs.declared.Disposition.the-variants as disposition
 use Rattle.readback.specs.Storing.{keptIn, capacity}
+use Rattle.command_frames.specs.declared.CommandFrames.{CommandFrames}
+use Rattle.command_frames.specs.Commanding.{isDue, takes, idWord, withPair, received}
+use Rattle.command_frames.specs.Commanding as cmd
 use Rattle.channel_core.specs.declared.Channel.{Channel}
-use Rattle.channel_core.specs.State.{opened, reset, withStatus, withRegisters, withSequencer}
-use Rattle.channel_core.specs.Behaviour.{started, startedIf, endedIf, resumedIf, resumedOn, eventOf, commanded, groupEnded, earlyEnded, userChanged, sendStatus, dueOf, playedOf, tickOf}
+use Rattle.channel_core.specs.State.{opened, reset, withStatus, withRegisters, withSequencer, withCommands}
+use Rattle.channel_core.specs.Behaviour.{started, startedIf, endedIf, resumedIf, resumedOn, eventOf, commanded, groupEnded, earlyEnded, userChanged, sendStatus, isSetpoint, dueOf, playedOf, tickOf}
 use Rattle.channel_replies.specs.Replying.{crcStatus, dispositionNow, receivedChannel, replyAs, replyOf}
+use Rattle.channel.specs.Calls.{disarmedOf}
 use Rattle.channel.proofs.Cases.{clash, either, by-test}
 use Rattle.histories.proofs.Ticks.{Latching, plays-ticked}
 use Rattle.histories.specs.Statuses.{isCondition}
-use Rattle.histories.specs.Ranges.{BitsInRange, StatusInRange, RegistersInRange, ReadbacksInRange, ChannelInRange}
+use Rattle.histories.specs.Ranges.{BitsInRange, StatusInRange, RegistersInRange, ReadbacksInRange, CommandsInRange, ChannelInRange}
 
 -- ---- Status
 
@@ -110,17 +114,60 @@ stored-range r offset value code h =
     (record { clock = h .clock; active = h .active; events = h .events; switches = h .switches; delays = simp length-set (h .delays) })
     h))))))
 
+-- ---- Command frames
+
+group-commands : (f : CommandFrames) → CommandsInRange f → CommandsInRange (cmd.groupEnded f)
+unfolding cmd.groupEnded
+group-commands f h = record { count = h .count; replies = h .replies }
+
+dropped-commands : (f : CommandFrames) → CommandsInRange f → CommandsInRange (cmd.dropped f)
+unfolding cmd.dropped
+dropped-commands f h = record { count = h .count; replies = h .replies }
+
+ticked-commands : (f : CommandFrames) (setpoint : Bool) → CommandsInRange f → CommandsInRange (cmd.ticked f setpoint)
+unfolding cmd.ticked
+ticked-commands f setpoint h =
+    either CommandsInRange setpoint (record { count = h .count; replies = h .replies })
+    (either CommandsInRange (isDue (f .waiting)) (record { count = omega arith; replies = h .replies }) h)
+
+stored-commands : (f : CommandFrames) (offset value : ℕ) → CommandsInRange f → CommandsInRange (cmd.stored f offset value)
+unfolding cmd.stored
+stored-commands f offset value h =
+    either CommandsInRange (eqb offset 0xe0) (record { count = h .count; replies = h .replies })
+    (either CommandsInRange (eqb offset 0xe2) (record { count = h .count; replies = h .replies })
+    (either CommandsInRange (eqb offset 0xfc) (record { count = h .count; replies = h .replies }) h))
+
+received-commands : (f : CommandFrames) (wrong : Bool) (id word : ℕ) → CommandsInRange f → CommandsInRange (received f wrong id word)
+unfolding received takes
+received-commands f wrong id word h = by-test CommandsInRange (takes f) (λ e. more (f .receiving) e) (λ e. h)
+  where
+    more : (on : Bool) → (on && ltb (f .count) 6) ≡ true
+        → CommandsInRange
+        (record {
+          header = f .header;
+          word = f .word;
+          waiting = f .waiting;
+          receiving = f .receiving;
+          count = f .count + 1;
+          replies = withPair (f .replies) (f .count) (idWord id wrong) word;
+        })
+    more true e = record { count = omega (arith, ltb-true (f .count) 6 e); replies = simp length-set (h .replies) }
+    more false e = clash e
+
 -- ---- The channel
 
 module _ (m : ℕ) where
   pub with-status : (c : Channel) (s : Status) → StatusInRange s → ChannelInRange m c → ChannelInRange m (withStatus c s)
-  with-status c s h k = record { status = h; registers = k .registers; readbacks = k .readbacks }
+  with-status c s h k = record { status = h; registers = k .registers; readbacks = k .readbacks; commands = k .commands }
 
   pub with-registers : (c : Channel) (r : Registers) → RegistersInRange r → ChannelInRange m c → ChannelInRange m (withRegisters c r)
-  with-registers c r h k = record { status = k .status; registers = h; readbacks = k .readbacks }
+  with-registers c r h k = record { status = k .status; registers = h; readbacks = k .readbacks; commands = k .commands }
 
   pub with-sequencer : (c : Channel) (s : Sequencer) → ChannelInRange m c → ChannelInRange m (withSequencer c s)
-  with-sequencer c s k = record { status = k .status; registers = k .registers; readbacks = k .readbacks }
+  with-sequencer c s k = record { status = k .status; registers = k .registers; readbacks = k .readbacks; commands = k .commands }
+
+  with-commands : (c : Channel) (f : CommandFrames) → CommandsInRange f → ChannelInRange m c → ChannelInRange m (withCommands c f)
+  with-commands c f h k = record { status = k .status; registers = k .registers; readbacks = k .readbacks; commands = h }
 
   pub opened-range : ChannelInRange m opened
   unfolding opened
@@ -129,6 +176,7 @@ module _ (m : ℕ) where
         status = record { enable = refl; interrupt = none-range; polling = none-range };
         registers = record { clock = omega arith; active = refl; events = refl; switches = refl; delays = refl };
         readbacks = record { stored = omega arith; retired = omega arith };
+        commands = record { count = omega arith; replies = refl };
       }
 
   pub reset-range : (c : Channel) → ChannelInRange m (reset c)
@@ -138,6 +186,7 @@ module _ (m : ℕ) where
         status = record { enable = refl; interrupt = none-range; polling = none-range };
         registers = opened-range .registers;
         readbacks = opened-range .readbacks;
+        commands = opened-range .commands;
       }
 
   started-range : (c : Channel) (delay : ℕ) → ChannelInRange m c → ChannelInRange m (started c delay)
@@ -156,6 +205,7 @@ module _ (m : ℕ) where
         status = latched-range _ groupEnd refl (early-range (c .status) (c .sequencer) (h .status));
         registers = group-registers (c .registers) (c .sequencer .count) (h .registers);
         readbacks = record { stored = omega arith; retired = h .readbacks .stored };
+        commands = group-commands (c .commands) (h .commands);
       }
 
   ended-if-range : (on : Bool) (c : Channel) → ChannelInRange m c → ChannelInRange m (endedIf on c)
@@ -188,7 +238,16 @@ module _ (m : ℕ) where
   unfolding tickOf
   tick-range c s n user h =
       let l = plays-ticked (c .sequencer) (dueOf c s n user) n (periodOf (c .registers .clock)) .latches in
-      with-sequencer _ _ (with-status c _ (send-range (c .status) (playedOf c s n user .transmission) l (h .status)) h)
+      with-commands _ _ (ticked-commands (c .commands) (isSetpoint (playedOf c s n user .transmission)) (h .commands))
+      (with-sequencer _ _ (with-status c _ (send-range (c .status) (playedOf c s n user .transmission) l (h .status)) h))
+
+  pub disarm-range : (c : Channel) → ChannelInRange m c → ChannelInRange m (disarmedOf c)
+  unfolding disarmedOf
+  disarm-range c h = with-commands _ _ (dropped-commands (c .commands) (h .commands)) (with-sequencer c _ h)
+
+  -- E0–FE
+  pub commands-range : (c : Channel) (offset value : ℕ) → ChannelInRange m c → ChannelInRange m (withCommands c (cmd.stored (c .commands) offset value))
+  commands-range c offset value h = with-commands c _ (stored-commands (c .commands) offset value (h .commands)) h
 
   kept-range : (r : Readbacks) → ReadbacksInRange m r → ReadbacksInRange m (keptIn r m)
   kept-range r h =
@@ -207,6 +266,7 @@ module _ (m : ℕ) where
         status = crc-range (c .status) right (h .status);
         registers = h .registers;
         readbacks = kept-range (c .readbacks) (h .readbacks);
+        commands = h .commands;
       }
 
   pub reply-range : (c : Channel) (f : ℕ) → ChannelInRange m c → ChannelInRange m (replyOf c m f)
@@ -215,4 +275,8 @@ module _ (m : ℕ) where
     where
       go : (g : Reading) → ChannelInRange m (replyAs g c m)
       go (frame.refused k) = h
-      go (frame.fields id word aux crc) = disposition-range (dispositionNow c m) c (crcRight id word aux crc) h
+      go (frame.fields id word aux crc) =
+          either (ChannelInRange m) (takes (c .commands))
+          (with-commands _ _ (received-commands (c .commands) (not (crcRight id word aux crc)) id word (h .commands))
+          (with-status c _ (crc-range (c .status) (crcRight id word aux crc) (h .status)) h))
+          (disposition-range (dispositionNow c m) c (crcRight id word aux crc) h)

@@ -1,31 +1,35 @@
 -- Every call keeps the channel's state in range, and so does any list of calls from an opening. Assumes nothing.
 use Prim.Native.Nat.{ℕ, _*_, _≤_}
-use mathlib.Core.Path.{_≡_, refl, sym, _∙_, ap, subst}
+use mathlib.Core.Path.{_≡_, refl, sym, _∙_, ap, subst, subst₂}
 use mathlib.Core.Bool.{Bool, true, false, cond}
 use mathlib.Core.List.{List, [], _∷_}
 use native.Mathlib.Omega.{arith}
 use lib.ListN.{length}
-use lib.Dec.{eqb, ltb}
+use lib.Dec.{eqb, leb, ltb}
 use borrow.Author.Tests.{eqb-true, eq-eqb, ltb-false}
 use Rattle.register_map.specs.AccessRule.{channelAccess}
 use Rattle.register_map.specs.AccessRefusals.{writeRefusal}
 use Rattle.status.specs.Bits.{bitAt}
 use Rattle.status.proofs.Laws.{enable-drops}
+use Rattle.sequencer.specs.declared.Sequencer.{Sequencer}
+use Rattle.command_frames.specs.declared.CommandFrames.{CommandFrames}
 use Rattle.channel_core.specs.declared.Channel.{Channel}
 use Rattle.channel_core.specs.State as state
 use Rattle.channel_core.specs.Answers.{Answer}
 use Rattle.channel_core.specs.Behaviour.{userChanged}
-use Rattle.channel_registers.specs.Calls.{registerRefusal, registerEffect, readEffect}
-use Rattle.channel.specs.Calls.{outside, armedOf, disarmedOf, mainTaken}
+use Rattle.channel_registers.specs.Calls.{functionActive, registerRefusal, registerEffect, readEffect}
+use Rattle.channel.specs.Calls.{outside, armedOf, mainTaken}
 use Rattle.channel.specs.OneChannel.{ChannelCall, OneChannel, oneChannel, then, lengthRefusal, refusalOf, effect, transition, transitions, mainRead, withUser, withChannel, withReadbacks, userRefusal}
 use Rattle.channel.specs.OneChannel as call
 use Rattle.channel.proofs.Cases.{clash, passed, either}
 use Rattle.channel.proofs.Ranges.{inside}
-use Rattle.histories.specs.Ranges.{SequencerInRange, ChannelInRange, InRange, CallKeepsRange, StaysInRange}
-use Rattle.histories.proofs.Calls.{steps}
+use Rattle.histories.specs.Ranges.{Quiet, SequencerInRange, ChannelInRange, Apart, InRange, CallKeepsRange, StaysInRange}
+use Rattle.histories.proofs.Calls.{steps, read-sequencer, main-sequencer}
+use Rattle.histories.proofs.Leaves.{leaves-read, leaves-main}
+use Rattle.histories.proofs.Apart.{ApartIn, apart-opened, apart-event, apart-user, apart-arm, apart-disarm, apart-tick, apart-reply, apart-register}
 use Rattle.histories.proofs.Depths.{depths-step}
 use Rattle.histories.proofs.Lengths.{SameLength, event-length, register-length, setpoint-length, reply-length}
-use Rattle.histories.proofs.Parts.{none-range, stored-range, with-status, with-registers, with-sequencer, opened-range, reset-range, event-range, command-range, user-range, tick-range, reply-range}
+use Rattle.histories.proofs.Parts.{none-range, stored-range, with-status, with-registers, with-sequencer, opened-range, reset-range, event-range, command-range, user-range, tick-range, disarm-range, commands-range, reply-range}
 use Rattle.histories.proofs.Refusing.{by-refusal}
 
 -- what a call leaves in range but for the sequencer, from any state, and the lengths that it leaves
@@ -44,16 +48,19 @@ then-passed first second = go (eqb first 0) refl
     go true e f = (eqb-true first 0 e, f)
     go false e f = clash (sym e ∙ eq-eqb first 0 f)
 
-clock-passed : (offset value : ℕ) → registerRefusal offset value ≡ 0 → eqb offset 0x0a ≡ true → value ≤ 3
+-- a write that is not refused: FC with D0 found the channel armed and idle, and a clock code is 3 at most
+register-passed : (c : Channel) (offset value : ℕ) → registerRefusal c offset value ≡ 0
+    → (functionActive c offset value ≡ false) × (eqb offset 0x0a ≡ true → value ≤ 3)
 unfolding registerRefusal
-clock-passed offset value e at =
-    let a = then-passed (writeRefusal (channelAccess offset)) (cond (eqb offset 0x0a) (cond (ltb 3 value) 5 0) 0) e .1 in
-    let b = ap (λ (x : Bool). cond x (cond (ltb 3 value) 5 0) 0) (sym at) ∙ a in
-    ltb-false 3 value (passed (ltb 3 value) 5 0 refl b .0)
+register-passed c offset value e =
+    let clock : ℕ = cond (eqb offset 0x0a) (cond (ltb 3 value) 5 0) 0 in
+    let a = then-passed (writeRefusal (channelAccess offset)) (cond (functionActive c offset value) 10 clock) e .1 in
+    let b = passed (functionActive c offset value) 10 clock refl a in
+    (b .0, λ at. ltb-false 3 value (passed (ltb 3 value) 5 0 refl (ap (λ (x : Bool). cond x (cond (ltb 3 value) 5 0) 0) (sym at) ∙ b .1) .0))
 
 -- ---- The channel
 
-register-range : (m : ℕ) (c : Channel) (offset value : ℕ) → registerRefusal offset value ≡ 0 → ChannelInRange m c
+register-range : (m : ℕ) (c : Channel) (offset value : ℕ) → registerRefusal c offset value ≡ 0 → ChannelInRange m c
     → ChannelInRange m (registerEffect c offset value)
 unfolding registerEffect
 register-range m c offset value e h =
@@ -62,7 +69,8 @@ register-range m c offset value e h =
     (with-status m c _ (record { enable = enable-drops value; interrupt = h .status .interrupt; polling = h .status .polling }) h)
     (either P (eqb offset 0x06) (either P (bitAt value 0) (reset-range m c) h)
     (either P (eqb offset 0x08) (command-range m c value h)
-    (with-registers m c _ (stored-range (c .registers) offset value (clock-passed offset value e) (h .registers)) h)))
+    (either P (leb 0xe0 offset) (commands-range m c offset value h)
+    (with-registers m c _ (stored-range (c .registers) offset value (register-passed c offset value e .1) (h .registers)) h))))
 
 read-range : (m : ℕ) (c : Channel) (offset : ℕ) → ChannelInRange m c → ChannelInRange m (readEffect c offset)
 unfolding readEffect
@@ -75,6 +83,16 @@ taken-range : (m : ℕ) (c : Channel) (polling : Bool) → ChannelInRange m c �
 unfolding mainTaken
 taken-range m c true h = with-status m c _ (record { enable = h .status .enable; interrupt = h .status .interrupt; polling = h .status .polling }) h
 taken-range m c false h = with-status m c _ (record { enable = h .status .enable; interrupt = h .status .interrupt; polling = h .status .polling }) h
+
+-- what leaves the sequencer and the command frames
+same-apart : (c d : Channel) → d .sequencer ≡ c .sequencer → d .commands ≡ c .commands → ApartIn c → ApartIn d
+same-apart c d a b p = subst₂ (λ (f : CommandFrames) (q : Sequencer). Apart f q) (sym b) (sym a) p
+
+read-apart : (c : Channel) (offset : ℕ) → ApartIn c → ApartIn (readEffect c offset)
+read-apart c offset = same-apart c (readEffect c offset) (read-sequencer c offset) (leaves-read c offset .commands)
+
+main-apart : (c : Channel) (offset : ℕ) → ApartIn c → ApartIn (mainRead c offset)
+main-apart c offset = same-apart c (mainRead c offset) (main-sequencer c offset) (leaves-main c offset .commands)
 
 main-range : (m : ℕ) (c : Channel) (offset : ℕ) → ChannelInRange m c → ChannelInRange m (mainRead c offset)
 main-range m c offset h =
@@ -107,9 +125,9 @@ user-stays o user e = go (eqb user (o .user))
         }
 
 effect-stays : (o : OneChannel) (k : ChannelCall) → refusalOf o k ≡ 0 → Stays o (effect o k)
-unfolding refusalOf effect armedOf disarmedOf
+unfolding refusalOf effect armedOf
 effect-stays o (call.writeRegister lent offset value) e =
-    let f = then-passed (lengthRefusal lent (o .m * 8)) (registerRefusal offset value) e .1 in
+    let f = then-passed (lengthRefusal lent (o .m * 8)) (registerRefusal (o .channel) offset value) e .1 in
     readbacks-stay o _ _ (register-range (o .m) (o .channel) offset value f) (register-length (o .channel) (o .readbacks) (o .m) offset value)
 effect-stays o (call.readRegister offset) e = channel-stays o _ (read-range (o .m) (o .channel) offset)
 effect-stays o (call.writeSetpoint lent user buffer index word) e =
@@ -120,7 +138,7 @@ effect-stays o (call.writeSetpoint lent user buffer index word) e =
       readback-words = refl;
     }
 effect-stays o call.arm e = channel-stays o _ (with-sequencer (o .m) (o .channel) _)
-effect-stays o call.disarm e = channel-stays o _ (with-sequencer (o .m) (o .channel) _)
+effect-stays o call.disarm e = channel-stays o _ (disarm-range (o .m) (o .channel))
 effect-stays o (call.reply lent f) e =
     readbacks-stay o _ _ (reply-range (o .m) (o .channel) f) (reply-length (o .channel) (o .readbacks) (o .m) (o .user) f)
 effect-stays o (call.query which one two) e = all-stays o
@@ -134,6 +152,46 @@ effect-stays o (call.readMain offset) e = channel-stays o _ (main-range (o .m) (
 pub stays : (o : OneChannel) (k : ChannelCall) → Stays o (transition o k)
 stays o k =
     by-refusal (λ (x : OneChannel) (a : Answer) (b c d : Bool). Stays o x) o k (λ e. effect-stays o k (eqb-true (refusalOf o k) 0 e)) (all-stays o)
+
+-- ---- Command frames and setpoints
+
+effect-apart : (o : OneChannel) (k : ChannelCall) → refusalOf o k ≡ 0 → Quiet (o .channel .sequencer) → ApartIn (o .channel) → ApartIn (effect o k .channel)
+unfolding refusalOf effect
+effect-apart o (call.writeRegister lent offset value) e q p =
+    let f = then-passed (lengthRefusal lent (o .m * 8)) (registerRefusal (o .channel) offset value) e .1 in
+    apart-register (o .channel) p q offset value (register-passed (o .channel) offset value f .0)
+effect-apart o (call.readRegister offset) e q p = read-apart (o .channel) offset p
+effect-apart o (call.writeSetpoint lent user buffer index word) e q p = p
+effect-apart o call.arm e q p = apart-arm (o .channel) p
+effect-apart o call.disarm e q p = apart-disarm (o .channel) p
+effect-apart o (call.reply lent f) e q p = apart-reply (o .channel) p (o .m) f
+effect-apart o (call.query which one two) e q p = p
+effect-apart o (call.tick lent) e q p = apart-tick (o .channel) p (o .setpoints) (o .n) (o .user)
+effect-apart o (call.event lent code) e q p = apart-event (o .channel) p (o .user) code
+effect-apart o (call.changeUser user) e q p =
+    either (λ (x : OneChannel). ApartIn (x .channel)) (eqb user (o .user)) p (apart-user (o .channel) p)
+effect-apart o (call.writeMain lent offset value) e q p = p
+effect-apart o (call.readMain offset) e q p = main-apart (o .channel) offset p
+
+apart-step : (o : OneChannel) (k : ChannelCall) → Quiet (o .channel .sequencer) → ApartIn (o .channel) → ApartIn (transition o k .channel)
+apart-step o k q p =
+    by-refusal (λ (x : OneChannel) (a : Answer) (b c d : Bool). ApartIn (x .channel)) o k (λ e. effect-apart o k (eqb-true (refusalOf o k) 0 e) q p) p
+
+-- what holds of a channel after any list of calls, whatever the depths and lengths: idle, nothing is sent; setpoints and command frames keep apart
+pub record Ordered (c : Channel) : Type 0 where
+  pub quiet : Quiet (c .sequencer)
+  pub apart : ApartIn c
+
+pub ordered-opened : Ordered state.opened
+unfolding state.opened
+ordered-opened = record { quiet = λ e. refl; apart = apart-opened }
+
+pub ordered-step : (o : OneChannel) (k : ChannelCall) → Ordered (o .channel) → Ordered (transition o k .channel)
+ordered-step o k h = record { quiet = steps o k (h .apart) .quiet-step (h .quiet); apart = apart-step o k (h .quiet) (h .apart) }
+
+pub ordered-from : (o : OneChannel) (ks : List ChannelCall) → Ordered (o .channel) → Ordered (transitions o ks .channel)
+ordered-from o [] h = h
+ordered-from o (k ∷ ks) h = ordered-from (transition o k) ks (ordered-step o k h)
 
 -- ---- Lists of calls
 
@@ -153,12 +211,13 @@ range-step o k h =
     let d = depths-step o k in
     let f = stays o k in
     let u = f .user (h .user-from, h .user-to) in
+    let t = steps o k (h .apart) in
     let q : SequencerInRange (o .n) (transition o k .channel .sequencer) =
     record {
-      index-due = steps o k .index-step (h .depth) (h .sequencer .index-due);
-      countdown = steps o k .countdown-step (h .sequencer .countdown);
-      replies = steps o k .replies-step (h .sequencer .replies);
-      quiet = steps o k .quiet-step (h .sequencer .quiet);
+      index-due = t .index-step (h .depth) (h .sequencer .index-due);
+      countdown = t .countdown-step (h .sequencer .countdown);
+      replies = t .replies-step (h .sequencer .replies);
+      quiet = t .quiet-step (h .sequencer .quiet);
     }
     in
     record {
@@ -168,6 +227,7 @@ range-step o k h =
       user-to = u .1;
       channel = channel-step o k (h .channel);
       sequencer = subst (λ (x : ℕ). SequencerInRange x (transition o k .channel .sequencer)) (sym (d .0)) q;
+      apart = apart-step o k (h .sequencer .quiet) (h .apart);
       setpoint-words = f .setpoint-words ∙ h .setpoint-words ∙ ap (λ (x : ℕ). x * 16) (sym (d .0));
       readback-words = f .readback-words ∙ h .readback-words ∙ ap (λ (x : ℕ). x * 2) (sym (d .1));
     }
@@ -188,6 +248,7 @@ stays-in-range n m setpoints readbacks some more s r ks =
       channel = opened-range m;
       sequencer =
           record { index-due = some; countdown = tt; replies = omega arith; quiet = λ e. refl };
+      apart = apart-opened;
       setpoint-words = s;
       readback-words = r;
     })

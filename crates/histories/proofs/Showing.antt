@@ -1,4 +1,4 @@
--- A Group End shows the frames answered before it in registers 10 and 12. Assumes nothing.
+-- A Group End shows the setpoints sent before it in registers 10 and 12. Assumes nothing.
 use Prim.Native.Nat.{ℕ, _/_, _%_, min}
 use mathlib.Core.Path.{_≡_, refl, _∙_, ap}
 use mathlib.Core.Bool.{Bool, true, false, _&&_}
@@ -15,10 +15,10 @@ use Rattle.channel_core.specs.Behaviour.{endedIf, groupEnded, eventOf, commande
 use Rattle.channel_registers.specs.Calls.{registerEffect, readValue}
 use Rattle.channel.specs.OneChannel.{ChannelCall, OneChannel, oneChannel, refusalOf, effect, answer, transition, response, transitions, readRegister}
 use Rattle.channel.specs.OneChannel as call
-use Rattle.histories.specs.History.{entry, history, asks, endsGroup, framesSince}
+use Rattle.histories.specs.History.{entry, toldOf, asks, endsGroup, sendsSince}
 use Rattle.channel.proofs.Cases.{clash}
-use Rattle.histories.specs.Counting.{mostCounted, ShowsFrames}
-use Rattle.histories.proofs.Counting.{counts-frames}
+use Rattle.histories.specs.Counting.{mostCounted, ShowsSends}
+use Rattle.histories.proofs.Counting.{counts-sends}
 use Rattle.histories.proofs.Cases.{by-offset}
 use Rattle.histories.proofs.Leaves.{leaves-event, leaves-command}
 use Rattle.histories.proofs.Refusing.{by-refusal}
@@ -78,12 +78,12 @@ reads-low o = refl
 high-byte : (j : ℕ) → min j mostCounted / 65536 % 256 ≡ min j mostCounted / 65536
 high-byte j = omega arith
 
-pub shows-frames : ShowsFrames
-shows-frames n m setpoints readbacks ks k e =
+pub shows-sends : ShowsSends
+shows-sends n m setpoints readbacks ks k e =
     let o = transitions (oneChannel n m setpoints readbacks) ks in
-    let c = shown-step o k e ∙ counts-frames n m setpoints readbacks ks in (
+    let c = shown-step o k e ∙ counts-sends n m setpoints readbacks ks in (
       reads-high (transition o k)
           ∙ ap (λ (x : ℕ). value (x / 65536 % 256)) c
-          ∙ ap value (high-byte (framesSince 0 (history (oneChannel n m setpoints readbacks) ks))),
+          ∙ ap value (high-byte (sendsSince 0 (toldOf (oneChannel n m setpoints readbacks) ks))),
       reads-low (transition o k) ∙ ap (λ (x : ℕ). value (x % 65536)) c,
     )

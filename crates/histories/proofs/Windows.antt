@@ -1,41 +1,54 @@
 -- After any list of calls, what was sent since idle and the replies after it are as the answers tell. Assumes nothing.
-use Prim.Native.Nat.{_≤_}
-use mathlib.Core.Path.{_≡_, refl, _∙_, ap}
+use Prim.Native.Nat.{ℕ, _≤_}
+use mathlib.Core.Path.{_≡_, refl, sym, _∙_, ap}
 use mathlib.Core.List.{List, [], _∷_}
 use native.Mathlib.Omega.{arith}
+use Rattle.command_frames.specs.declared.CommandFrames.{CommandFrames}
 use Rattle.channel_core.specs.State as state
 use Rattle.channel.specs.OneChannel.{oneChannel, ChannelCall, OneChannel, transition, transitions}
-use Rattle.histories.specs.History.{entry, history}
+use Rattle.histories.specs.History.{entry, Told, told, toldOf}
 use Rattle.histories.specs.Windows.{Window, closed, windowAfter, windowSince}
-use Rattle.histories.specs.Ranges.{Quiet}
+use Rattle.histories.specs.Commands.{NoSetpointMeanwhile}
 use Rattle.histories.specs.Replying.{WindowHeld}
 use Rattle.histories.proofs.Ticks.{windowOf}
 use Rattle.histories.proofs.Calls.{steps}
+use Rattle.histories.proofs.Ranges.{Ordered, ordered-opened, ordered-step, ordered-from}
+use Rattle.histories.proofs.Commands.{toldFrom, told-next, commands-told}
 
-pub window-is : (o : OneChannel) (ks : List ChannelCall) (w : Window) → windowOf (o .channel .sequencer) ≡ w
-    → windowOf (transitions o ks .channel .sequencer) ≡ windowSince w (history o ks)
-unfolding windowSince
-window-is o [] w h = h
-window-is o (k ∷ ks) w h =
-    window-is (transition o k) ks (windowAfter w (entry o k))
-    (steps o k .window-step ∙ ap (λ (x : Window). windowAfter x (entry o k)) h)
+window-from : (o : OneChannel) (ks : List ChannelCall) (w : Window) → Ordered (o .channel) → windowOf (o .channel .sequencer) ≡ w
+    → windowOf (transitions o ks .channel .sequencer) ≡ windowSince w (toldFrom o ks)
+unfolding windowSince told
+window-from o [] w g h = h
+window-from o (k ∷ ks) w g h =
+    let t : Told = record { entry = entry o k; commands = o .channel .commands } in
+    window-from (transition o k) ks (windowAfter w t) (ordered-step o k g)
+    (steps o k (g .apart) .window-step ∙ ap (λ (x : Window). windowAfter x t) h)
+    ∙ ap (windowSince w) (sym (told-next o k ks (g .apart)))
 
--- idle, it has sent nothing
-pub quiet-from : (o : OneChannel) (ks : List ChannelCall) → Quiet (o .channel .sequencer) → Quiet (transitions o ks .channel .sequencer)
-quiet-from o [] q = q
-quiet-from o (k ∷ ks) q = quiet-from (transition o k) ks (steps o k .quiet-step q)
+few-replies : (o : OneChannel) (ks : List ChannelCall) → Ordered (o .channel) → o .channel .sequencer .last .replies ≤ 6
+    → transitions o ks .channel .sequencer .last .replies ≤ 6
+few-replies o [] g h = h
+few-replies o (k ∷ ks) g h = few-replies (transition o k) ks (ordered-step o k g) (steps o k (g .apart) .replies-step h)
 
-few-replies : (o : OneChannel) (ks : List ChannelCall) → o .channel .sequencer .last .replies ≤ 6 → transitions o ks .channel .sequencer .last .replies ≤ 6
-few-replies o [] h = h
-few-replies o (k ∷ ks) h = few-replies (transition o k) ks (steps o k .replies-step h)
+module _ (n m : ℕ) (setpoints readbacks : List ℕ) (ks : List ChannelCall) where
+  pub window-is : windowOf (transitions (oneChannel n m setpoints readbacks) ks .channel .sequencer)
+      ≡ windowSince closed (toldOf (oneChannel n m setpoints readbacks) ks)
+  unfolding state.opened
+  window-is = window-from (oneChannel n m setpoints readbacks) ks closed ordered-opened refl
 
 pub window-held : WindowHeld
 unfolding state.opened
 window-held n m setpoints readbacks ks =
-    let e = window-is (oneChannel n m setpoints readbacks) ks closed refl in
+    let e = window-is n m setpoints readbacks ks in
     let r = ap (λ (w : Window). w .replies) e in
     record {
       sent = ap (λ (w : Window). w .sent) e;
       replies = r;
-      at-most-six = rw r at (few-replies (oneChannel n m setpoints readbacks) ks (omega arith));
+      at-most-six = rw r at (few-replies (oneChannel n m setpoints readbacks) ks ordered-opened (omega arith));
     }
+
+pub no-setpoint-meanwhile : NoSetpointMeanwhile
+no-setpoint-meanwhile n m setpoints readbacks ks on =
+    sym (ap (λ (w : Window). w .sent) (window-is n m setpoints readbacks ks))
+    ∙ ordered-from (oneChannel n m setpoints readbacks) ks ordered-opened .apart
+    .receiving-unsent (ap (λ (f : CommandFrames). f .receiving) (commands-told n m setpoints readbacks ks) ∙ on)

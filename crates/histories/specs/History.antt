@@ -1,5 +1,6 @@
 -- Document 01, 'A channel's life', over what calls ANSWERED. A history: what a channel by itself was called with, in which state, and what it
 -- answered. Laws over histories are stated with these.
+-- Document 02, card 1: which of the frames are command frames, and which replies go to E4–FA, told by calls and answers.
 use Prim.Native.Nat.{ℕ, _+_}
 use mathlib.Core.Bool.{Bool, true, false, cond, not, _&&_, _||_}
 use mathlib.Core.List.{List, [], _∷_}
@@ -9,7 +10,11 @@ use Rattle.frame.specs.Frames as frame
 use Rattle.status.specs.Bits.{bitAt}
 use Rattle.registers.specs.Map.{triggersOf, groupEndEvent}
 use Rattle.readback.specs.Storing.{storedWord}
-use Rattle.channel_core.specs.Answers.{Answer, isFrame}
+use Rattle.command_frames.specs.declared.CommandFrames.{CommandFrames}
+use Rattle.command_frames.specs.Commanding.{isDue, takes, received}
+use Rattle.command_frames.specs.Commanding as cmd
+use Rattle.channel_core.specs.Answers.{Answer, isFrame, isReceived}
+use Rattle.channel_core.specs.Answers as ans
 use Rattle.channel.specs.OneChannel.{ChannelCall, OneChannel, refusalOf, transition, response}
 use Rattle.channel.specs.OneChannel as call
 
@@ -33,6 +38,38 @@ abbrev pub replyWord : OneChannel → Reading → List ℕ
 replyWord o (frame.refused k) = []
 replyWord o (frame.fields id word aux crc) = storedWord (o .channel .sequencer .last) (o .user) (not (crcRight id word aux crc)) id word ∷ []
 
+-- a reply that was answered kept
+abbrev pub isKept : Answer → Bool
+isKept (ans.refused k) = false
+isKept (ans.value v) = false
+isKept (ans.frame f) = false
+isKept ans.kept = true
+isKept ans.lost = false
+isKept (ans.part s) = false
+isKept (ans.other r) = false
+
+-- what a call makes of command frames, by what it answered: the frame that waits, its registers, the replies to the last one
+abbrev pub Commanding : Type 0
+Commanding = Answer → CommandFrames → CommandFrames
+
+abbrev pub leavesCommands : Commanding
+leavesCommands a f = f
+
+-- a reply that was answered kept goes to E4–FA, where a command frame takes it
+abbrev pub repliedTo : Reading → Commanding
+repliedTo (frame.refused k) a f = f
+repliedTo (frame.fields id word aux crc) a f = cond (isKept a) (received f (not (crcRight id word aux crc)) id word) f
+
+-- a tick that answered a frame: the command frame if one was due, else a setpoint's
+abbrev pub tickedBy : Commanding
+tickedBy a f = cond (isFrame a) (cmd.ticked f (not (isDue (f .waiting)))) f
+
+-- a write: Reset with D0, Commands with D2, else E0, E2 and FC keep it
+abbrev pub writtenBy : ℕ → ℕ → Commanding
+writtenBy offset value a f =
+    cond (eqb offset 0x06 && bitAt value 0) cmd.opened
+    (cond (eqb offset 0x08 && bitAt value 2) (cmd.groupEnded f) (cmd.stored f offset value))
+
 -- what the laws over histories want to know of a call that is not refused
 pub record Asks : Type 0 where
   -- a Group End: the Group End event's code, or Commands with D2
@@ -43,33 +80,44 @@ pub record Asks : Type 0 where
   pub idle : Bool
   -- the word that a reply brings
   pub word : List ℕ
+  pub commands : Commanding
 
--- none of these: whatever else it does, the call ends no group, resets and idles nothing and brings no word
+-- none of these but what it makes of command frames: the call ends no group, resets and idles nothing and brings no word
+abbrev pub commanding : Commanding → Asks
+commanding f = record { groupEnd = false; reset = false; idle = false; word = []; commands = f }
+
+-- none of these, whatever else it does
 abbrev pub asksNothing : Asks
-asksNothing = record { groupEnd = false; reset = false; idle = false; word = [] }
+asksNothing = commanding leavesCommands
 
 -- one of these alone
 abbrev pub groupEndIf : Bool → Asks
-groupEndIf on = record { groupEnd = on; reset = false; idle = false; word = [] }
+groupEndIf on = record { groupEnd = on; reset = false; idle = false; word = []; commands = λ a f. cond on (cmd.groupEnded f) f }
 
-abbrev pub idleIf : Bool → Asks
-idleIf on = record { groupEnd = false; reset = false; idle = on; word = [] }
+abbrev pub idleIf : Bool → Commanding → Asks
+idleIf on f = record { groupEnd = false; reset = false; idle = on; word = []; commands = f }
 
-abbrev pub bringing : List ℕ → Asks
-bringing word = record { groupEnd = false; reset = false; idle = false; word = word }
+abbrev pub bringing : List ℕ → Commanding → Asks
+bringing word f = record { groupEnd = false; reset = false; idle = false; word = word; commands = f }
 
 abbrev pub asks : OneChannel → ChannelCall → Asks
 asks o (call.writeRegister lent offset value) =
-    record { groupEnd = eqb offset 0x08 && bitAt value 2; reset = eqb offset 0x06 && bitAt value 0; idle = false; word = [] }
+    record {
+      groupEnd = eqb offset 0x08 && bitAt value 2;
+      reset = eqb offset 0x06 && bitAt value 0;
+      idle = false;
+      word = [];
+      commands = writtenBy offset value;
+    }
 asks o (call.readRegister offset) = asksNothing
 asks o (call.writeSetpoint lent user buffer index word) = asksNothing
 asks o call.arm = asksNothing
-asks o call.disarm = idleIf true
-asks o (call.reply lent f) = bringing (replyWord o (read f))
+asks o call.disarm = idleIf true (λ a f. cmd.dropped f)
+asks o (call.reply lent f) = bringing (replyWord o (read f)) (repliedTo (read f))
 asks o (call.query which one two) = asksNothing
-asks o (call.tick lent) = asksNothing
+asks o (call.tick lent) = commanding tickedBy
 asks o (call.event lent code) = groupEndIf (triggersOf (o .channel .registers) groupEndEvent code)
-asks o (call.changeUser user) = idleIf (not (eqb user (o .user)))
+asks o (call.changeUser user) = idleIf (not (eqb user (o .user))) leavesCommands
 asks o (call.writeMain lent offset value) = asksNothing
 asks o (call.readMain offset) = asksNothing
 
@@ -90,9 +138,40 @@ resets e = cond (isRefused e) false (asks (e .before) (e .call) .reset)
 abbrev pub stops : Entry → Bool
 stops e = cond (isRefused e) false (asks (e .before) (e .call) .idle)
 
+-- ---- Command frames along a history
+
+-- what is told of command frames after an entry; a refused call tells nothing
+unfoldable pub commandsAfter : CommandFrames → Entry → CommandFrames
+commandsAfter f e = cond (isRefused e) f (asks (e .before) (e .call) .commands (e .answer) f)
+
+unfoldable pub commandsSince : CommandFrames → List Entry → CommandFrames
+commandsSince f [] = f
+commandsSince f (e ∷ es) = commandsSince (commandsAfter f e) es
+
+-- an entry, and what the entries before it tell of command frames
+pub record Told : Type 0 where
+  pub entry : Entry
+  pub commands : CommandFrames
+
+unfoldable pub told : CommandFrames → List Entry → List Told
+told f [] = []
+told f (e ∷ es) = record { entry = e; commands = f } ∷ told (commandsAfter f e) es
+
+-- of a history from an opening
+abbrev pub toldOf : OneChannel → List ChannelCall → List Told
+toldOf o ks = told cmd.opened (history o ks)
+
+-- a setpoint send: a tick that answered a frame, where no command frame was due
+abbrev pub sends : Told → Bool
+sends t = isFrame (t .entry .answer) && not (isDue (t .commands .waiting))
+
+-- a reply that was answered kept or lost, and did not go to E4–FA
+abbrev pub receives : Told → Bool
+receives t = isReceived (t .entry .answer) && not (takes (t .commands))
+
 -- ---- Counted along a history
 
--- how many ticks answered a frame since the last Group End or reset, and `k` more before the history if it has none
-unfoldable pub framesSince : ℕ → List Entry → ℕ
-framesSince k [] = k
-framesSince k (e ∷ es) = framesSince (cond (endsGroup e || resets e) 0 (cond (isFrame (e .answer)) (k + 1) k)) es
+-- how many setpoints were sent since the last Group End or reset, and `k` more before the history if it has none
+unfoldable pub sendsSince : ℕ → List Told → ℕ
+sendsSince k [] = k
+sendsSince k (t ∷ ts) = sendsSince (cond (endsGroup (t .entry) || resets (t .entry)) 0 (cond (sends t) (k + 1) k)) ts

@@ -1,29 +1,19 @@
 -- Document 01, 'A channel's life': "Retired readbacks: .. the answer is the stored part of the inactive one itself, by count, without the end word."
--- Stated over what replies were answered: what is stored are the words of those answered kept, in the order they came.
+-- Stated over what replies were answered: what is stored are the words of those answered kept, in the order they came, but for those to E4–FA.
 use Prim.Native.Nat.{ℕ, _*_}
 use mathlib.Core.Path.{_≡_}
-use mathlib.Core.Bool.{Bool, true, false, cond}
+use mathlib.Core.Bool.{cond, not, _&&_}
 use mathlib.Core.List.{List, [], _∷_, _++_}
 use lib.ListN.{length}
-use Rattle.channel_core.specs.Answers.{Answer, part, partLength}
-use Rattle.channel_core.specs.Answers as ans
+use Rattle.command_frames.specs.Commanding.{takes}
+use Rattle.channel_core.specs.Answers.{part, partLength}
 use Rattle.channel.specs.OneChannel.{ChannelCall, OneChannel, oneChannel, response, transitions}
 use Rattle.channel.specs.OneChannel as call
-use Rattle.histories.specs.History.{Entry, history, asks, endsGroup, resets}
+use Rattle.histories.specs.History.{isKept, Told, toldOf, asks, endsGroup, resets}
 
--- a reply that was answered kept
-abbrev pub isKept : Answer → Bool
-isKept (ans.refused k) = false
-isKept (ans.value v) = false
-isKept (ans.frame f) = false
-isKept ans.kept = true
-isKept ans.lost = false
-isKept (ans.part s) = false
-isKept (ans.other r) = false
-
--- what a call stores: the word of a reply that was answered kept; one lost or unsolicited stores nothing
-abbrev pub storedBy : Entry → List ℕ
-storedBy e = cond (isKept (e .answer)) (asks (e .before) (e .call) .word) []
+-- what a call stores: the word of a reply that was answered kept; one lost or unsolicited stores nothing, nor does one that goes to E4–FA
+abbrev pub storedBy : Told → List ℕ
+storedBy t = cond (isKept (t .entry .answer) && not (takes (t .commands))) (asks (t .entry .before) (t .entry .call) .word) []
 
 -- the words of the replies kept since the last Group End, reset or opening; and of those kept before that Group End, from the one before it,
 -- from a reset or from the opening on. With no Group End since a reset or the opening there are none of the latter.
@@ -44,18 +34,18 @@ keptWith g words = record { current = g .current ++ words; retired = g .retired 
 
 -- a Group End, though its event or command may then start the channel again; "Reset D0 returns that channel to its opening state"; a kept reply's
 -- word goes after those before it. Nothing else stores a word: the end word is none of them.
-abbrev pub keptAfter : Kept → Entry → Kept
-keptAfter g e = cond (resets e) nothingKept (cond (endsGroup e) (switched g) (keptWith g (storedBy e)))
+abbrev pub keptAfter : Kept → Told → Kept
+keptAfter g t = cond (resets (t .entry)) nothingKept (cond (endsGroup (t .entry)) (switched g) (keptWith g (storedBy t)))
 
-unfoldable pub keptSince : Kept → List Entry → Kept
+unfoldable pub keptSince : Kept → List Told → Kept
 keptSince g [] = g
-keptSince g (e ∷ es) = keptSince (keptAfter g e) es
+keptSince g (t ∷ ts) = keptSince (keptAfter g t) ts
 
 -- of an opening and a list of calls
 abbrev pub keptOver : ℕ → ℕ → List ℕ → List ℕ → List ChannelCall → Kept
-keptOver n m setpoints readbacks ks = keptSince nothingKept (history (oneChannel n m setpoints readbacks) ks)
+keptOver n m setpoints readbacks ks = keptSince nothingKept (toldOf (oneChannel n m setpoints readbacks) ks)
 
--- from an opening, after any list of calls, "both stored readback counts" are the numbers of replies that were answered kept
+-- from an opening, after any list of calls, "both stored readback counts" are the numbers of replies that were answered kept, but for those to E4–FA
 abbrev pub CountsKept : Type 0
 CountsKept =
     (n m : ℕ) (setpoints readbacks : List ℕ) (ks : List ChannelCall)

@@ -2,6 +2,7 @@ pub mod History
 pub mod Refusing
 pub mod Counting
 pub mod Windows
+pub mod Commands
 pub mod Keeping
 pub mod Replying
 pub mod Statuses

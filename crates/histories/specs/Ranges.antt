@@ -13,6 +13,8 @@ use Rattle.sequencer.specs.declared.Stage.the-variants as stage
 use Rattle.sequencer.specs.declared.Sequencer.{Sequencer}
 use Rattle.sequencer.specs.Playing.{isIdle, nothingSent}
 use Rattle.readback.specs.declared.Readbacks.{Readbacks}
+use Rattle.command_frames.specs.declared.CommandFrames.{CommandFrames}
+use Rattle.command_frames.specs.Commanding.{isDue}
 use Rattle.channel_core.specs.declared.Channel.{Channel}
 use Rattle.channel.specs.OneChannel.{ChannelCall, OneChannel, oneChannel, transition, transitions}
 use Rattle.histories.specs.Statuses.{isCondition}
@@ -28,6 +30,15 @@ CountdownInRange stage.Ended left resume = 1 ≤ left
 
 abbrev pub Countdown : Sequencer → Type 0
 Countdown s = CountdownInRange (s .stage) (s .left) (s .resume)
+
+-- a command frame is due on the next tick: idle, or two ticks and more to the first word, so that no setpoint leaves with it
+abbrev pub ApartAt : Stage → ℕ → Type 0
+ApartAt stage.Idle left = Unit {0}
+ApartAt stage.Starting left = 2 ≤ left
+ApartAt stage.Running left = ⊥
+ApartAt (stage.Paused k) left = ⊥
+ApartAt stage.Resuming left = ⊥
+ApartAt stage.Ended left = ⊥
 
 -- the last send is one "since idle"
 abbrev pub Quiet : Sequencer → Type 0
@@ -60,11 +71,24 @@ pub record ReadbacksInRange (m : ℕ) (r : Readbacks) : Type 0 where
   pub stored : r .stored ≤ m
   pub retired : r .retired ≤ m
 
+-- "six pairs", of which FE counts those that came
+pub record CommandsInRange (f : CommandFrames) : Type 0 where
+  pub count : f .count ≤ 6
+  pub replies : length (f .replies) ≡ 12
+
 -- a channel but for its sequencer
 pub record ChannelInRange (m : ℕ) (c : Channel) : Type 0 where
   pub status : StatusInRange (c .status)
   pub registers : RegistersInRange (c .registers)
   pub readbacks : ReadbacksInRange m (c .readbacks)
+  pub commands : CommandsInRange (c .commands)
+
+-- command frames and setpoints keep apart: neither leaves with the other, and while one waits for the next tick, or replies go to E4–FA, no setpoint
+-- was sent since idle
+pub record Apart (f : CommandFrames) (s : Sequencer) : Type 0 where
+  pub due : isDue (f .waiting) ≡ true → ApartAt (s .stage) (s .left)
+  pub due-unsent : isDue (f .waiting) ≡ true → s .last .sent ≡ false
+  pub receiving-unsent : f .receiving ≡ true → s .last .sent ≡ false
 
 pub record InRange (o : OneChannel) : Type 0 where
   pub depth : 1 ≤ o .n
@@ -73,6 +97,7 @@ pub record InRange (o : OneChannel) : Type 0 where
   pub user-to : o .user ≤ 8
   pub channel : ChannelInRange (o .m) (o .channel)
   pub sequencer : SequencerInRange (o .n) (o .channel .sequencer)
+  pub apart : Apart (o .channel .commands) (o .channel .sequencer)
   pub setpoint-words : length (o .setpoints) ≡ o .n * 16
   pub readback-words : length (o .readbacks) ≡ o .m * 2
 

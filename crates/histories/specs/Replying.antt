@@ -1,6 +1,7 @@
 -- Document 01, 'A channel's life': "A reply is kept if not idle, a setpoint was sent since idle, and fewer than six replies have followed the
 -- last such send; else it is "unasked". If the buffer is full it is "lost", and counts among the six." `unsolicited` is "unasked".
--- All of it is stated over what calls answered: what was sent and replied (`windowSince`), and how many replies were kept (`keptSince`).
+-- All of it is stated over what calls answered: what was sent and replied (`windowSince`), how many replies were kept (`keptSince`), and, of document
+-- 02, card 1, what is told of command frames (`commandsSince`).
 use Prim.Native.Nat.{ℕ, _+_, _*_, _≤_}
 use mathlib.Core.Path.{_≡_}
 use mathlib.Core.Bool.{Bool, cond, not, _&&_}
@@ -11,9 +12,12 @@ use Rattle.frame.specs.Frames.{read, fields, crcRight}
 use Rattle.registers.specs.Map.{secondActive, readbackPlace}
 use Rattle.sequencer.specs.declared.Sequencer.{Sequencer}
 use Rattle.readback.specs.Storing.{capacity, placeOf, storedWord}
+use Rattle.command_frames.specs.declared.CommandFrames.{CommandFrames}
+use Rattle.command_frames.specs.Commanding.{takes, received}
 use Rattle.channel_core.specs.Answers.{kept, lost, unsolicited}
 use Rattle.channel.specs.OneChannel.{ChannelCall, OneChannel, oneChannel, transition, response, transitions, reply}
-use Rattle.histories.specs.History.{history}
+use Rattle.histories.specs.History.{toldOf}
+use Rattle.histories.specs.Commands.{commandsOver}
 use Rattle.histories.specs.Windows.{Window, closed, windowSince}
 use Rattle.histories.specs.Keeping.{Kept, keptOver}
 
@@ -28,9 +32,9 @@ abbrev pub WindowHeld : Type 0
 WindowHeld =
     (n m : ℕ) (setpoints readbacks : List ℕ) (ks : List ChannelCall)
     → HoldsWindow (transitions (oneChannel n m setpoints readbacks) ks .channel .sequencer)
-    (windowSince closed (history (oneChannel n m setpoints readbacks) ks))
+    (windowSince closed (toldOf (oneChannel n m setpoints readbacks) ks))
 
--- a reply is due: a tick answered a frame since the last call that idles, so the channel is not idle, and fewer than six replies followed it
+-- a reply is due: a setpoint was sent since the last call that idles, so the channel is not idle, and fewer than six replies followed it
 abbrev pub dueByWindow : Window → Bool
 dueByWindow w = w .sent && ltb (w .replies) 6
 
@@ -43,20 +47,27 @@ abbrev pub storedAfter : OneChannel → Kept → ℕ → List ℕ
 storedAfter o g word =
     set (o .readbacks) (placeOf (secondActive (o .channel .registers) readbackPlace) (o .m) (length (g .current))) word
 
--- a reply, lent what fits: exactly where it is kept, lost or unsolicited, and what is stored
-pub record Replied (o : OneChannel) (w : Window) (g : Kept) (m f id word aux crc : ℕ) : Type 0 where
-  pub answers : response o (reply (m * 8) f) ≡ cond (dueByWindow w) (cond (hasSpace m g) kept lost) unsolicited
-  pub count : transition o (reply (m * 8) f) .channel .readbacks .stored
-      ≡ cond (dueByWindow w && hasSpace m g) (length (g .current) + 1) (length (g .current))
-  pub words : transition o (reply (m * 8) f) .readbacks
-      ≡ cond (dueByWindow w && hasSpace m g)
+-- it goes to a buffer: it is not for a command frame, it is due, and there is space
+abbrev pub storesReply : CommandFrames → Window → ℕ → Kept → Bool
+storesReply f w m g = not (takes f) && (dueByWindow w && hasSpace m g)
+
+-- a reply, lent what fits: exactly where it is kept, lost or unsolicited, what is stored, and what goes to E4–FA. `f` is what is told of command frames.
+pub record Replied (o : OneChannel) (f : CommandFrames) (w : Window) (g : Kept) (m number id word aux crc : ℕ) : Type 0 where
+  pub answers : response o (reply (m * 8) number)
+      ≡ cond (takes f) kept (cond (dueByWindow w) (cond (hasSpace m g) kept lost) unsolicited)
+  pub count : transition o (reply (m * 8) number) .channel .readbacks .stored
+      ≡ cond (storesReply f w m g) (length (g .current) + 1) (length (g .current))
+  pub words : transition o (reply (m * 8) number) .readbacks
+      ≡ cond (storesReply f w m g)
       (storedAfter o g (storedWord (o .channel .sequencer .last) (o .user) (not (crcRight id word aux crc)) id word))
       (o .readbacks)
+  pub commands : transition o (reply (m * 8) number) .channel .commands ≡ received f (not (crcRight id word aux crc)) id word
 
 -- from an opening, after any list of calls, a well-framed reply
 abbrev pub RepliesByWindow : Type 0
 RepliesByWindow =
-    (n m : ℕ) (setpoints readbacks : List ℕ) (ks : List ChannelCall) (f id word aux crc : ℕ)
-    → read f ≡ fields id word aux crc
-    → Replied (transitions (oneChannel n m setpoints readbacks) ks) (windowSince closed (history (oneChannel n m setpoints readbacks) ks))
-    (keptOver n m setpoints readbacks ks) m f id word aux crc
+    (n m : ℕ) (setpoints readbacks : List ℕ) (ks : List ChannelCall) (number id word aux crc : ℕ)
+    → read number ≡ fields id word aux crc
+    → Replied (transitions (oneChannel n m setpoints readbacks) ks) (commandsOver n m setpoints readbacks ks)
+    (windowSince closed (toldOf (oneChannel n m setpoints readbacks) ks))
+    (keptOver n m setpoints readbacks ks) m number id word aux crc

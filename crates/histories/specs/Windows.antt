@@ -1,16 +1,16 @@
 -- Document 01, 'A channel's life': "a setpoint was sent since idle, and fewer than six replies have followed the last such send".
--- Stated over calls and what they answered: a send is a tick that answered a frame, and what idles a channel is a call.
+-- Stated over calls and what they answered: a send is a tick that answered a frame, and not a command frame; what idles a channel is a call. Replies
+-- that go to E4–FA follow no setpoint.
 use Prim.Native.Nat.{ℕ, _+_}
 use mathlib.Core.Bool.{Bool, true, false, cond, _||_}
 use mathlib.Core.List.{List, [], _∷_}
-use Rattle.channel_core.specs.Answers.{isFrame, isReceived}
-use Rattle.histories.specs.History.{Entry, endsGroup, resets, stops}
+use Rattle.histories.specs.History.{Entry, Told, endsGroup, resets, stops, sends, receives}
 
 -- it idles the channel, though its event or command may then start it again: a Group End, a reset ("its opening state"), or a call that idles without either
 abbrev pub idles : Entry → Bool
 idles e = endsGroup e || (resets e || stops e)
 
--- whether a tick answered a frame since the last call that idles, and the replies kept or lost after the last such tick
+-- whether a setpoint was sent since the last call that idles, and the replies kept or lost after the last such send
 pub record Window : Type 0 where
   pub sent : Bool
   pub replies : ℕ
@@ -18,12 +18,12 @@ pub record Window : Type 0 where
 abbrev pub closed : Window
 closed = record { sent = false; replies = 0 }
 
-abbrev pub windowAfter : Window → Entry → Window
-windowAfter w e =
-    cond (idles e) closed
-    (cond (isFrame (e .answer)) (record { sent = true; replies = 0 })
-    (cond (isReceived (e .answer)) (record { sent = w .sent; replies = w .replies + 1 }) w))
+abbrev pub windowAfter : Window → Told → Window
+windowAfter w t =
+    cond (idles (t .entry)) closed
+    (cond (sends t) (record { sent = true; replies = 0 })
+    (cond (receives t) (record { sent = w .sent; replies = w .replies + 1 }) w))
 
-unfoldable pub windowSince : Window → List Entry → Window
+unfoldable pub windowSince : Window → List Told → Window
 windowSince w [] = w
-windowSince w (e ∷ es) = windowSince (windowAfter w e) es
+windowSince w (t ∷ ts) = windowSince (windowAfter w t) ts

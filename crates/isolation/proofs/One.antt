@@ -13,7 +13,9 @@ use Rattle.sequencer.specs.declared.Transmission.the-variants as transmission
 use Rattle.channel_core.specs.declared.Channel.{Channel}
 use Rattle.channel_core.specs.Answers.{Answer, isRefusal, unless}
 use Rattle.channel_core.specs.Answers as ans
-use Rattle.channel_core.specs.Behaviour.{sendFrame, playedOf}
+use Rattle.command_frames.specs.declared.CommandFrames.{CommandFrames}
+use Rattle.command_frames.specs.Commanding.{isDue}
+use Rattle.channel_core.specs.Behaviour.{tickLine, playedOf}
 use Rattle.channel_core.specs.Behaviour as core
 use Rattle.channel_replies.specs.Replying.{replyAnswerAs, replyAs, replyWordsAs}
 use Rattle.channel_replies.specs.Replying as replies
@@ -33,9 +35,9 @@ withBoth o c s = withReadbacks (withChannel o c) s
 
 -- ---- Refused, it stands still
 
-frame-none : (id : ℕ) (t : Transmission) → isRefusal (sendFrame id t) ≡ false
-frame-none id transmission.Nothing = refl
-frame-none id (transmission.Word word k) = refl
+frame-none : (id : ℕ) (f : CommandFrames) (t : Transmission) → isRefusal (tickLine id f t) ≡ false
+frame-none id f transmission.Nothing = either (λ (a : Answer). isRefusal a ≡ false) (isDue (f .waiting)) refl refl
+frame-none id f (transmission.Word word k) = refl
 
 main-none : (c : Channel) (o : ℕ) → isRefusal (mainAnswer c o) ≡ false
 main-none c o =
@@ -55,7 +57,7 @@ module _ (o : OneChannel) where
       ap₂ (withBoth o) (reply-still (o .channel) (o .m) f h) (reply-words (o .channel) (o .readbacks) (o .m) (o .user) f h)
   effect-still (to.query q k j) h = refl
   effect-still (to.tick lent) h =
-      clash (sym (frame-none (o .channel .registers .id) (playedOf (o .channel) (o .setpoints) (o .n) (o .user) .transmission)) ∙ h)
+      clash (sym (frame-none (o .channel .registers .id) (o .channel .commands) (playedOf (o .channel) (o .setpoints) (o .n) (o .user) .transmission)) ∙ h)
   effect-still (to.event lent x) h = clash h
   effect-still (to.changeUser u) h = clash h
   effect-still (to.writeMain lent x v) h = refl
@@ -76,7 +78,7 @@ module _ (o : OneChannel) where
         → transition o (to.writeRegister k x v)
         ≡ withBoth o (channel-registers.writtenOf (o .channel) x v) (channel-registers.writtenWords (o .channel) (o .readbacks) (o .m) x v)
     unfolding transition refusalOf effect channel-registers.writtenOf channel-registers.writtenWords
-    transition-write x v = rw fit (go (eqb (registerRefusal x v) 0))
+    transition-write x v = rw fit (go (eqb (registerRefusal (o .channel) x v) 0))
       where
         go : (t : Bool)
             → cond t (withBoth o (channel-registers.registerEffect (o .channel) x v) (channel-registers.registerWords (o .channel) (o .readbacks) (o .m) x v)) o
@@ -150,9 +152,9 @@ module _ (o : OneChannel) where
       go true = refl
       go false = refl
 
-  pub response-write : (k x v : ℕ) → response o (to.writeRegister k x v) ≡ cond (eqb k (o .m * 8)) (channel-registers.writtenAnswer x v) sizeMismatch
+  pub response-write : (k x v : ℕ) → response o (to.writeRegister k x v) ≡ cond (eqb k (o .m * 8)) (channel-registers.writtenAnswer (o .channel) x v) sizeMismatch
   unfolding response refusalOf answer channel-registers.writtenAnswer
-  response-write k x v = fit-first k (o .m * 8) (registerRefusal x v) ans.done
+  response-write k x v = fit-first k (o .m * 8) (registerRefusal (o .channel) x v) ans.done
 
   pub response-setpoint : (k u f i x : ℕ)
       → response o (to.writeSetpoint k u f i x)

@@ -1,7 +1,7 @@
 -- A refused call changes no state and no lent word, on any board and lent anything. Assumes nothing.
 use Prim.Native.Nat.{ℕ}
 use mathlib.Core.Path.{_≡_, refl, sym, ap, _∙_}
-use mathlib.Core.Bool.{Bool, true, false}
+use mathlib.Core.Bool.{Bool, true, false, cond}
 use mathlib.Core.List.{List}
 use lib.ListN.{length}
 use Rattle.frame.specs.Frames.{Reading, read}
@@ -11,8 +11,9 @@ use Rattle.readback.specs.declared.Disposition.the-variants as disposition
 use Rattle.address_map.specs.Addresses.{Named, named, main, channel, nothing}
 use Rattle.register_map.specs.AccessRule.{channelAccess, mainAccess}
 use Rattle.register_map.specs.AccessRefusals.{readRefusal, writeRefusal}
+use Rattle.command_frames.specs.Commanding.{takes}
 use Rattle.channel_core.specs.declared.Channel.{Channel}
-use Rattle.channel_core.specs.Answers.{isRefusal}
+use Rattle.channel_core.specs.Answers.{Answer, isRefusal}
 use Rattle.channel_core.specs.Answers as ans
 use Rattle.channel_replies.specs.Replying.{dispositionNow, receiptAnswer, replyAnswerAs, replyAs, replyWordsAs}
 use Rattle.channel_replies.specs.Replying as replies
@@ -21,7 +22,7 @@ use Rattle.channel_registers.specs.Calls as channel-registers
 use Rattle.channel.specs.Calls.{setpointRefusal}
 use Rattle.channel.specs.Calls as chn
 use Rattle.channel.specs.OneChannel.{userRefusal}
-use Rattle.channel.proofs.Cases.{clash, by-test}
+use Rattle.channel.proofs.Cases.{clash, either, by-test}
 use Rattle.board_state.specs.declared.Board.{Board}
 use Rattle.board_state.specs.State.{channelAt, withChannelAt}
 use Rattle.board_state.specs.Main.{mainValue}
@@ -43,14 +44,19 @@ disposition-none disposition.Unsolicited = refl
 disposition-none disposition.Lost = refl
 disposition-none disposition.Kept = refl
 
-module _ (c : Channel) where
-  written-still : (o v : ℕ) → isRefusal (channel-registers.writtenAnswer o v) ≡ true → channel-registers.writtenOf c o v ≡ c
-  unfolding channel-registers.writtenAnswer channel-registers.writtenOf
-  written-still o v h = rw (unless-refused (registerRefusal o v) ans.done refl h)
+-- nor is a well-framed reply refused
+received-none : (c : Channel) (m : ℕ) → isRefusal (cond (takes (c .commands)) ans.kept (receiptAnswer (dispositionNow c m))) ≡ false
+received-none c m =
+    either (λ (a : Answer). isRefusal a ≡ false) (takes (c .commands)) refl (disposition-none (dispositionNow c m))
 
-  written-words : (s : List ℕ) (m o v : ℕ) → isRefusal (channel-registers.writtenAnswer o v) ≡ true → channel-registers.writtenWords c s m o v ≡ s
+module _ (c : Channel) where
+  written-still : (o v : ℕ) → isRefusal (channel-registers.writtenAnswer c o v) ≡ true → channel-registers.writtenOf c o v ≡ c
+  unfolding channel-registers.writtenAnswer channel-registers.writtenOf
+  written-still o v h = rw (unless-refused (registerRefusal c o v) ans.done refl h)
+
+  written-words : (s : List ℕ) (m o v : ℕ) → isRefusal (channel-registers.writtenAnswer c o v) ≡ true → channel-registers.writtenWords c s m o v ≡ s
   unfolding channel-registers.writtenAnswer channel-registers.writtenWords
-  written-words s m o v h = rw (unless-refused (registerRefusal o v) ans.done refl h)
+  written-words s m o v h = rw (unless-refused (registerRefusal c o v) ans.done refl h)
 
   read-still : (o : ℕ) → isRefusal (channel-registers.readAnswer c o) ≡ true → channel-registers.readOf c o ≡ c
   unfolding channel-registers.readAnswer channel-registers.readOf
@@ -66,7 +72,7 @@ module _ (c : Channel) where
     where
       go : (r : Reading) → isRefusal (replyAnswerAs r c m) ≡ true → replyAs r c m ≡ c
       go (frame.refused k) h = refl
-      go (frame.fields id word aux crc) h = clash (sym (disposition-none (dispositionNow c m)) ∙ h)
+      go (frame.fields id word aux crc) h = clash (sym (received-none c m) ∙ h)
 
   pub reply-words : (s : List ℕ) (m u f : ℕ) → isRefusal (replies.replyAnswer c m f) ≡ true → replies.replyWords c s m u f ≡ s
   unfolding replies.replyAnswer replies.replyWords
@@ -74,7 +80,7 @@ module _ (c : Channel) where
     where
       go : (r : Reading) → isRefusal (replyAnswerAs r c m) ≡ true → replyWordsAs r c s m u ≡ s
       go (frame.refused k) h = refl
-      go (frame.fields id word aux crc) h = clash (sym (disposition-none (dispositionNow c m)) ∙ h)
+      go (frame.fields id word aux crc) h = clash (sym (received-none c m) ∙ h)
 
 -- ---- The board
 
@@ -82,12 +88,12 @@ abbrev Is : {A : Type 0} → A → A → Type 0
 Is x y = y ≡ x
 
 module _ (b : Board) where
-  write-at : (a : Named) (v : ℕ) → isRefusal (writeAnswerAt a v) ≡ true → writeBoardAt a b v ≡ b
+  write-at : (a : Named) (v : ℕ) → isRefusal (writeAnswerAt a b v) ≡ true → writeBoardAt a b v ≡ b
   write-at (main o) v h = rw (unless-refused (writeRefusal (mainAccess o)) ans.done refl h)
   write-at (channel d o) v h = ap (withChannelAt b d) (written-still (channelAt b d) o v h) ∙ withChannelAt-own b d
   write-at nothing v h = refl
 
-  write-words-at : (a : Named) (s : List ℕ) (v : ℕ) → isRefusal (writeAnswerAt a v) ≡ true → writeWordsAt a b s v ≡ s
+  write-words-at : (a : Named) (s : List ℕ) (v : ℕ) → isRefusal (writeAnswerAt a b v) ≡ true → writeWordsAt a b s v ≡ s
   write-words-at (main o) s v h = refl
   write-words-at (channel d o) s v h =
       ap (withOwn s (readbackSize b) d) (written-words (channelAt b d) (own s (readbackSize b) d) (b .m) o v h)

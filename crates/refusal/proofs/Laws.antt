@@ -16,3 +16,4 @@ refuses refusal.ActiveBuffer = refl
 refuses refusal.FramingError = refl
 refuses refusal.BadTrailer = refl
 refuses refusal.BadRecord = refl
+refuses refusal.FunctionActive = refl

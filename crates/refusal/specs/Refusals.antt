@@ -1,4 +1,5 @@
--- Document 01, 'Calls': the number that its table ("Number", "Trade's word", "Condition") gives each refusal. The only place where they stand.
+-- Document 01, 'Calls': the number that its table ("Number", "Trade's word", "Condition") gives each refusal, and those that requests of document 02
+-- add ("Numbers that cards add join document 01's list"). The only place where they stand.
 use Prim.Native.Nat.{ℕ}
 use Rattle.refusal.specs.declared.Refusal.{Refusal}
 use Rattle.refusal.specs.declared.Refusal.the-variants as refusal
@@ -15,6 +16,7 @@ numberOf refusal.ActiveBuffer = 6
 numberOf refusal.FramingError = 7
 numberOf refusal.BadTrailer = 8
 numberOf refusal.BadRecord = 9
+numberOf refusal.FunctionActive = 10
 
 -- the number that each case of a verdict stands for; 0 is no refusal
 abbrev pub verdictNumber : Verdict → ℕ

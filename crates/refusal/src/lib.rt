@@ -1,8 +1,8 @@
-// The refusals of document 01's list, the number of each, and the verdict on a call.
+// The refusals of document 01's list and of the requests of document 02 that landed, the number of each, and the verdict on a call.
 ghost use mathlib.Core.Path.{_≡_};
 ghost use Rattle.refusal.specs.Refusals.{numberOf};
 
-// The comment gives document 01's word for it ("Trade's word").
+// The comment gives the papers' word for it ("Trade's word").
 pub enum Refusal {
     // misfit
     SizeMismatch,
@@ -22,6 +22,8 @@ pub enum Refusal {
     BadTrailer,
     // bad record
     BadRecord,
+    // function on
+    FunctionActive,
 }
 
 // Whether a call is refused, and by which refusal.
@@ -43,5 +45,6 @@ pub fn number(refusal: Refusal) -> u8
         Refusal::FramingError => 7,
         Refusal::BadTrailer => 8,
         Refusal::BadRecord => 9,
+        Refusal::FunctionActive => 10,
     }
 }

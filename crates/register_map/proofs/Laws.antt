@@ -12,16 +12,16 @@ module _ (offset : ℕ) where
   unfolding channelAccess
   channel-odd = odd channelMap channelReadOnly channelWriteOnly offset
 
-  pub channel-past : 0xDE < offset → channelAccess offset ≡ access.None
+  pub channel-past : 0xFE < offset → channelAccess offset ≡ access.None
   unfolding channelAccess
   channel-past h =
-      uncovered channelMap channelReadOnly channelWriteOnly offset (past 0x00 0xDE channelMap offset refl h)
+      uncovered channelMap channelReadOnly channelWriteOnly offset (past 0x00 0xFE channelMap offset refl h)
 
-  -- a channel's offset in the map is even and at most DE
-  pub channel-mapped : (channelAccess offset ≡ access.None → ⊥) → (offset % 2 ≡ 0) × (offset ≤ 0xDE)
+  -- a channel's offset in the map is even and at most FE
+  pub channel-mapped : (channelAccess offset ≡ access.None → ⊥) → (offset % 2 ≡ 0) × (offset ≤ 0xFE)
   channel-mapped h =
       let even : offset % 2 ≡ 1 → ⊥ = λ n. h (channel-odd n) in
-      let end : 0xDE < offset → ⊥ = λ n. h (channel-past n) in
+      let end : 0xFE < offset → ⊥ = λ n. h (channel-past n) in
       (omega arith, omega arith)
 
   pub main-odd : offset % 2 ≡ 1 → mainAccess offset ≡ access.None

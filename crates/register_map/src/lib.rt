@@ -1,4 +1,4 @@
-// The register map of document 01: the access of each offset, in one table that all register calls consult.
+// The register map of document 01, with the registers that requests of document 02 add: the access of each offset, in one table that all register calls consult.
 ghost use mathlib.Core.Path.{_≡_};
 ghost use Prim.Native.Nat.{_<_};
 ghost use Rattle.register_map.specs.AccessRule.{channelAccess, entryAccess, mainAccess};
@@ -129,22 +129,22 @@ const ACCESS: [Access; 133] = [
     Access::ReadWrite, // DA Resume 4 delay, user 7, low word
     Access::ReadWrite, // DC Resume 4 delay, user 8, high byte
     Access::ReadWrite, // DE Resume 4 delay, user 8, low word
-    Access::None, // E0
-    Access::None, // E2
-    Access::None, // E4
-    Access::None, // E6
-    Access::None, // E8
-    Access::None, // EA
-    Access::None, // EC
-    Access::None, // EE
-    Access::None, // F0
-    Access::None, // F2
-    Access::None, // F4
-    Access::None, // F6
-    Access::None, // F8
-    Access::None, // FA
-    Access::None, // FC
-    Access::None, // FE
+    Access::ReadWrite, // E0 Command frame: auxiliary bits, Frame ID
+    Access::ReadWrite, // E2 Command frame: data
+    Access::ReadOnly, // E4 Command frame: readback ID 1
+    Access::ReadOnly, // E6 Command frame: readback 1
+    Access::ReadOnly, // E8 Command frame: readback ID 2
+    Access::ReadOnly, // EA Command frame: readback 2
+    Access::ReadOnly, // EC Command frame: readback ID 3
+    Access::ReadOnly, // EE Command frame: readback 3
+    Access::ReadOnly, // F0 Command frame: readback ID 4
+    Access::ReadOnly, // F2 Command frame: readback 4
+    Access::ReadOnly, // F4 Command frame: readback ID 5
+    Access::ReadOnly, // F6 Command frame: readback 5
+    Access::ReadOnly, // F8 Command frame: readback ID 6
+    Access::ReadOnly, // FA Command frame: readback 6
+    Access::WriteOnly, // FC Command frame: send
+    Access::ReadOnly, // FE Command frame: readback count
     Access::ReadWrite, // Main 22 Level
     Access::ReadWrite, // Main 24 Vector
     Access::ReadWrite, // Main 26 Enable

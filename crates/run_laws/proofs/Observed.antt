@@ -12,6 +12,7 @@ use Rattle.frame.specs.Frames.{Reading, read}
 use Rattle.frame.specs.Frames as frame
 use Rattle.readback.specs.declared.Disposition.{Disposition}
 use Rattle.readback.specs.declared.Disposition.the-variants as disposition
+use Rattle.command_frames.specs.Commanding.{takes}
 use Rattle.channel_core.specs.declared.Channel.{Channel}
 use Rattle.channel_core.specs.Answers.{Answer, isRefusal, isFrame, unless}
 use Rattle.channel_core.specs.Answers as ans
@@ -31,7 +32,7 @@ use Rattle.board_channels.specs.Calls as channels
 use Rattle.board_registers.specs.Calls as registers
 use Rattle.isolation.specs.Calls.{Call, writeRegister, readRegister, writeSetpoint, arm, disarm, reply, query, tick, event, changeUser, interruptLevel, Lent, first, second, queryAnswerAt, answer}
 use Rattle.isolation.specs.Feeding.{only, Scope, ofOne, ofEach, ofMain, ofAll, ofNone, writeScope, readScope, answerFor, shared, sharedRead, observeIn, observe}
-use Rattle.channel.proofs.Cases.{by-test}
+use Rattle.channel.proofs.Cases.{either, by-test}
 use Rattle.tally.specs.Tallies.{sends}
 use Rattle.run_laws.specs.Drawn.{howMany}
 
@@ -51,13 +52,14 @@ receipt-quiet disposition.Kept = record { quiet = refl }
 
 reading-quiet : (r : Reading) (c : Channel) (m : ℕ) → Quiet (replyAnswerAs r c m)
 reading-quiet (frame.refused k) c m = record { quiet = refl }
-reading-quiet (frame.fields id word aux crc) c m = receipt-quiet (dispositionNow c m)
+reading-quiet (frame.fields id word aux crc) c m =
+    either Quiet (takes (c .commands)) (record { quiet = refl }) (receipt-quiet (dispositionNow c m))
 
 module _ (b : Board) where
-  write-at : (n : Named) (v : ℕ) → Quiet (writeAnswerAt n v)
+  write-at : (n : Named) (v : ℕ) → Quiet (writeAnswerAt n b v)
   unfolding channel-registers.writtenAnswer
   write-at (main o) v = unless-quiet (writeRefusal (mainAccess o)) ans.done (record { quiet = refl })
-  write-at (channel d o) v = unless-quiet (channel-registers.registerRefusal o v) ans.done (record { quiet = refl })
+  write-at (channel d o) v = unless-quiet (channel-registers.registerRefusal (channelAt b d) o v) ans.done (record { quiet = refl })
   write-at nothing v = record { quiet = refl }
 
   read-at : (n : Named) → Quiet (readAnswerAt n b)

@@ -1,18 +1,30 @@
--- k ticks of the channel are k ticks of its sequencer, and a tick answers what the sequencer transmits. Assumes nothing.
+-- k ticks of the channel are k ticks of its sequencer, and a tick answers what the sequencer transmits, or a command frame. Assumes nothing.
 use Prim.Native.Nat.{ℕ, zero, suc, _+_, _-_, _*_, _≤_}
 use mathlib.Core.Path.{_≡_, refl, sym, ap, subst, _∙_}
+use mathlib.Core.Bool.{false, cond}
 use lib.ListN.{replicate}
 use native.Mathlib.Omega.{arith}
-use native.Mathlib.Nat.{add-zero, add-suc}
-use borrow.Author.Tests.{eq-eqb}
+use native.Mathlib.Nat.{add-zero, add-suc, zero-add}
+use lib.Dec.{eqb}
+use borrow.Author.Tests.{eq-eqb, ne-eqb}
 use Rattle.status.specs.declared.Status.{Status}
 use Rattle.registers.specs.declared.Registers.{Registers}
 use Rattle.sequencer.specs.declared.Sequencer.{Sequencer}
 use Rattle.sequencer.specs.Runs.{next, ticks, sends, JustSent, Leaves, Repeats}
-use Rattle.channel_core.specs.State.{withStatus, withSequencer}
-use Rattle.channel_core.specs.Behaviour.{dueOf, tickOf, tickAnswer, sendStatus, sendFrame}
+use Rattle.sequencer.specs.declared.Transmission.{Transmission}
+use Rattle.sequencer.specs.declared.Transmission.the-variants as transmission
+use Rattle.command_frames.specs.declared.CommandFrames.{CommandFrames}
+use Rattle.command_frames.specs.Commanding.{isDue}
+use Rattle.command_frames.specs.Commanding as cmd
+use Rattle.command_frames.proofs.Laws.{ticked-due}
+use Rattle.channel_core.specs.Answers.{Answer}
+use Rattle.channel_core.specs.Answers as ans
+use Rattle.channel_core.specs.State.{withStatus, withSequencer, withCommands}
+use Rattle.channel_core.specs.Behaviour.{dueOf, tickOf, tickAnswer, sendStatus, isSetpoint, commandAnswer, sendFrame, tickLine}
+use Rattle.channel_core.proofs.Laws.{line-none}
+use Rattle.channel.proofs.Cases.{either}
 use Rattle.channel.specs.OneChannel.{OneChannel, ChannelCall, tick, refusalOf, effect, answer, transition, response, transitions, withChannel}
-use Rattle.timing.specs.Ticking.{oneTick, after, onTick, wordAt, period, played, plays, Keeps, Sent, NextFrame, Repeat}
+use Rattle.timing.specs.Ticking.{oneTick, after, onTick, wordAt, period, between, answerOn, played, plays, Keeps, Sent, NextFrame, Repeat}
 use Rattle.timing.specs.Timing as the
 
 -- a tick lent the right length is not refused
@@ -31,47 +43,79 @@ transitions-more : (o : OneChannel) (c : ChannelCall) (k : ℕ) → transitions 
 transitions-more o c zero = refl
 transitions-more o c (suc k) = transitions-more (transition o c) c k
 
--- the channel with another status and sequencer
-abbrev with : OneChannel → Status → Sequencer → OneChannel
-with o s q = withChannel o (withSequencer (withStatus (o .channel) s) q)
+-- the channel with another status, sequencer and command frames
+abbrev with : OneChannel → Status → Sequencer → CommandFrames → OneChannel
+with o s q f = withChannel o (withCommands (withSequencer (withStatus (o .channel) s) q) f)
 
 -- one tick of such a channel
-tick-with : (o : OneChannel) (s : Status) (q : Sequencer)
-    → transition (with o s q) (oneTick o)
-    ≡ with o (sendStatus s (next (wordAt o) (o .n) (period o) q .transmission)) (next (wordAt o) (o .n) (period o) q .sequencer)
+tick-with : (o : OneChannel) (s : Status) (q : Sequencer) (f : CommandFrames)
+    → let x = next (wordAt o) (o .n) (period o) q in
+    transition (with o s q f) (oneTick o) ≡ with o (sendStatus s (x .transmission)) (x .sequencer) (cmd.ticked f (isSetpoint (x .transmission)))
 unfolding tickOf dueOf
-tick-with o s q = tick-transition (with o s q) (o .n * 64) refl
+tick-with o s q f = tick-transition (with o s q f) (o .n * 64) refl
 
-response-with : (o : OneChannel) (s : Status) (q : Sequencer)
-    → response (with o s q) (oneTick o) ≡ sendFrame (o .channel .registers .id) (next (wordAt o) (o .n) (period o) q .transmission)
+response-with : (o : OneChannel) (s : Status) (q : Sequencer) (f : CommandFrames)
+    → response (with o s q f) (oneTick o) ≡ tickLine (o .channel .registers .id) f (next (wordAt o) (o .n) (period o) q .transmission)
 unfolding tickAnswer dueOf
-response-with o s q = tick-response (with o s q) (o .n * 64) refl
+response-with o s q f = tick-response (with o s q f) (o .n * 64) refl
 
 after-suc : (o : OneChannel) (k : ℕ) → after o (suc k) ≡ transition (after o k) (oneTick o)
 unfolding after
 after-suc o k = transitions-more o (oneTick o) k
 
--- the status and the sequencer alone change
-pub after-with : (o : OneChannel) (k : ℕ) → after o k ≡ with o (after o k .channel .status) (played o k)
-unfolding after ticks sends
+-- status, sequencer and command frames alone change
+after-next : (o : OneChannel) (k : ℕ) → after o k ≡ with o (after o k .channel .status) (played o k) (after o k .channel .commands)
+    → after o (suc k)
+    ≡ with o (sendStatus (after o k .channel .status) (plays o (suc k))) (played o (suc k)) (cmd.ticked (after o k .channel .commands) (isSetpoint (plays o (suc k))))
+unfolding ticks sends
+after-next o k e =
+    after-suc o k ∙ ap (λ (p : OneChannel). transition p (oneTick o)) e ∙ tick-with o (after o k .channel .status) (played o k) (after o k .channel .commands)
+
+pub after-with : (o : OneChannel) (k : ℕ) → after o k ≡ with o (after o k .channel .status) (played o k) (after o k .channel .commands)
+unfolding after ticks
 after-with o zero = refl
 after-with o (suc k) =
-    let t = after o k .channel .status in
-    let e : after o (suc k) ≡ with o (sendStatus t (plays o (suc k))) (played o (suc k))
-    = after-suc o k ∙ ap (λ (p : OneChannel). transition p (oneTick o)) (after-with o k) ∙ tick-with o t (played o k) in
-    e ∙ ap (λ (x : Status). with o x (played o (suc k))) (sym (ap (λ (p : OneChannel). p .channel .status) e))
+    let e = after-next o k (after-with o k) in
+    e
+    ∙ ap (λ (x : Status). with o x (played o (suc k)) (cmd.ticked (after o k .channel .commands) (isSetpoint (plays o (suc k)))))
+    (sym (ap (λ (p : OneChannel). p .channel .status) e))
+    ∙ ap (λ (f : CommandFrames). with o (after o (suc k) .channel .status) (played o (suc k)) f) (sym (ap (λ (p : OneChannel). p .channel .commands) e))
 
-response-after : (o : OneChannel) (k : ℕ) → response (after o k) (oneTick o) ≡ sendFrame (o .channel .registers .id) (plays o (suc k))
+-- after a tick no command frame is due
+due-later : (o : OneChannel) (k : ℕ) → isDue (after o (suc k) .channel .commands .waiting) ≡ false
+due-later o k =
+    ap (λ (p : OneChannel). isDue (p .channel .commands .waiting)) (after-next o k (after-with o k))
+    ∙ ticked-due (after o k .channel .commands) (isSetpoint (plays o (suc k)))
+
+response-after : (o : OneChannel) (k : ℕ)
+    → response (after o k) (oneTick o) ≡ tickLine (o .channel .registers .id) (after o k .channel .commands) (plays o (suc k))
 unfolding sends
 response-after o k =
-    ap (λ (p : OneChannel). response p (oneTick o)) (after-with o k) ∙ response-with o (after o k .channel .status) (played o k)
+    ap (λ (p : OneChannel). response p (oneTick o)) (after-with o k)
+    ∙ response-with o (after o k .channel .status) (played o k) (after o k .channel .commands)
 
--- tick j answers the frame of what the sequencer transmits, or none
-pub on-tick : (o : OneChannel) (j : ℕ) → 1 ≤ j → onTick o j ≡ sendFrame (o .channel .registers .id) (plays o j)
+-- past the next tick nothing but setpoints leaves
+pub between-past : (o : OneChannel) (j : ℕ) → 2 ≤ j → between o j ≡ ans.none
+between-past o j h = rw (ne-eqb j 1 (λ e. omega arith))
+
+past : (o : OneChannel) (j : ℕ) → 2 ≤ j → (x : Transmission) → sendFrame (o .channel .registers .id) x ≡ answerOn o j x
+past o j h transmission.Nothing = sym (between-past o j h)
+past o j h (transmission.Word word k) = refl
+
+line-on : (o : OneChannel) (k : ℕ) (x : Transmission)
+    → tickLine (o .channel .registers .id) (after o k .channel .commands) x ≡ answerOn o (suc k) x
+unfolding after
+line-on o zero transmission.Nothing = refl
+line-on o zero (transmission.Word word k) = refl
+line-on o (suc k) x =
+    line-none (o .channel .registers .id) (after o (suc k) .channel .commands) (due-later o k) x ∙ past o (suc (suc k)) (omega arith) x
+
+-- tick j answers the frame of what the sequencer transmits, or what leaves between setpoints
+pub on-tick : (o : OneChannel) (j : ℕ) → 1 ≤ j → onTick o j ≡ answerOn o j (plays o j)
 unfolding onTick
 on-tick o j h =
     let e : suc (j - 1) ≡ j = omega arith in
-    response-after o (j - 1) ∙ ap (λ (k : ℕ). sendFrame (o .channel .registers .id) (plays o k)) e
+    response-after o (j - 1) ∙ line-on o (j - 1) (plays o (suc (j - 1))) ∙ ap (λ (k : ℕ). answerOn o k (plays o k)) e
 
 pub bridge : the.Bridge
 bridge o k = (after-with o k, on-tick o (k + 1) (omega arith))
@@ -114,6 +158,13 @@ on-tick-add o k j h =
     ∙ ap (λ (p : OneChannel). response p (oneTick o)) (after-add o k (j - 1))
     ∙ ap (response (after (after o k) (j - 1))) (sym (same-tick o k))
 
+-- what leaves between setpoints, d ticks after k
+pub between-add : (o : OneChannel) (k d : ℕ) → 1 ≤ d → between (after o k) d ≡ between o (k + d)
+unfolding after
+between-add o zero d h = sym (ap (between o) (zero-add d))
+between-add o (suc k) d h =
+    either (λ (a : Answer). a ≡ ans.none) (eqb d 1) (rw (due-later o k)) refl ∙ sym (between-past o (suc k + d) (omega arith))
+
 pub later-ticks : the.LaterTicks
 later-ticks o k = (after-keeps o k, on-tick-add o k)
 
@@ -126,17 +177,25 @@ sent-after o k i s = subst (λ (p : OneChannel). Sent p i) (sym (after-with o k)
 pub next-frame : (o : OneChannel) (k i : ℕ) → 1 ≤ k → Leaves (wordAt o) (o .n) (period o) (o .channel .sequencer) k i → NextFrame o k i
 next-frame o k i some l =
     record {
-      silent = λ j a b. on-tick o j a ∙ ap (sendFrame (o .channel .registers .id)) (l .silent j b);
-      sent = on-tick o k some ∙ ap (sendFrame (o .channel .registers .id)) (l .sent);
+      silent = λ j a b. on-tick o j a ∙ ap (answerOn o j) (l .silent j b);
+      sent = on-tick o k some ∙ ap (answerOn o k) (l .sent);
       done = sent-after o k i (l .after);
     }
 
+-- the same answers, where registers and command frames are the same
+pub same-answers : (o p : OneChannel) (j : ℕ) → p .channel .registers ≡ o .channel .registers → p .channel .commands ≡ o .channel .commands
+    → (x : Transmission) → answerOn p j x ≡ answerOn o j x
+same-answers o p j same same-commands transmission.Nothing =
+    ap (λ (f : CommandFrames). cond (eqb j 1) (commandAnswer f) ans.none) same-commands
+same-answers o p j same same-commands (transmission.Word word k) =
+    ap (λ (r : Registers). sendFrame (r .id) (transmission.Word word k)) same
+
 -- and what it repeats is repeated
-pub repeat : (o p : OneChannel) (word left j : ℕ) → 1 ≤ j → p .channel .registers ≡ o .channel .registers
+pub repeat : (o p : OneChannel) (word left j : ℕ) → 1 ≤ j → p .channel .registers ≡ o .channel .registers → p .channel .commands ≡ o .channel .commands
     → Repeats word left (period o) j (plays p j) → Repeat o word left j (onTick p j)
-repeat o p word left j some same r =
-    let e = on-tick p j some ∙ ap (λ (x : Registers). sendFrame (x .id) (plays p j)) same in
+repeat o p word left j some same same-commands r =
+    let e = on-tick p j some ∙ same-answers o p j same same-commands (plays p j) in
     record {
-      on = λ b. e ∙ ap (sendFrame (o .channel .registers .id)) (r .on b);
-      off = λ b. e ∙ ap (sendFrame (o .channel .registers .id)) (r .off b);
+      on = λ b. e ∙ ap (answerOn o j) (r .on b);
+      off = λ b. e ∙ ap (answerOn o j) (r .off b);
     }

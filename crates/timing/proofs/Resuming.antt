@@ -19,9 +19,9 @@ use Rattle.sequencer.proofs.Laws as laws
 use Rattle.sequencer.proofs.Moves.{resume-taken}
 use Rattle.channel_core.specs.declared.Channel.{Channel}
 use Rattle.channel_core.specs.State.{withSequencer}
-use Rattle.channel_core.specs.Behaviour.{sendFrame, endedIf, endedWords, startedIf, resumedIf, resumedOn, eventOf, eventWords, commanded, commandWords}
+use Rattle.channel_core.specs.Behaviour.{endedIf, endedWords, startedIf, resumedIf, resumedOn, eventOf, eventWords, commanded, commandWords}
 use Rattle.channel.specs.OneChannel.{OneChannel, transition, withChannel}
-use Rattle.timing.specs.Ticking.{wordAt, period, Resumes}
+use Rattle.timing.specs.Ticking.{wordAt, period, answerOn, Resumes}
 use Rattle.timing.specs.Timing.{command, eventCall, triggeredBy, delay, OnlyResumes, OnlyD1}
 use Rattle.timing.specs.Timing as the
 use Rattle.timing.proofs.Bridge.{after-with, on-tick, sent-after, repeat}
@@ -158,9 +158,9 @@ resumes o k d at some =
     let r = withChannel o (loaded (o .channel) k d) in
     let l = laws.resume (wordAt o) (o .n) (period o) q k d at some (period-some o) in
     record {
-      repeats = λ j a b. repeat o r (q .word) (q .left) j a refl (l .0 j b);
-      silent = λ j a b. on-tick r j (omega arith) ∙ ap (sendFrame (o .channel .registers .id)) (l .1 j a b);
-      sent = on-tick r (d + 10) (omega arith) ∙ ap (sendFrame (o .channel .registers .id)) (l .2);
+      repeats = λ j a b. repeat o r (q .word) (q .left) j a refl refl (l .0 j b);
+      silent = λ j a b. on-tick r j (omega arith) ∙ ap (answerOn r j) (l .1 j a b);
+      sent = on-tick r (d + 10) (omega arith) ∙ ap (answerOn r (d + 10)) (l .2);
       done = sent-after r (d + 10) (q .index) (l .3);
       under-way = λ j h.
           ap (λ (x : OneChannel). x .channel .sequencer .stage) (after-with r j)

@@ -21,7 +21,7 @@ use Rattle.channel.proofs.Cases.{by-test}
 use Rattle.histories.proofs.Calls as clock
 use Rattle.timing.specs.Ticking.{after, wordAt, period, frameOf, played, Keeps, Sent, NextFrame, Still}
 use Rattle.timing.specs.Timing as the
-use Rattle.timing.proofs.Bridge.{next-frame, repeat, after-keeps, after-add, on-tick-add, after-with}
+use Rattle.timing.proofs.Bridge.{next-frame, repeat, after-keeps, after-add, on-tick-add, between-add, after-with}
 
 pub period-some : (o : OneChannel) → 1 ≤ period o
 period-some o = clock.period-some (o .channel .registers .clock)
@@ -77,14 +77,14 @@ series o i h sent plain =
     let x = h * period o in
     let q = sent-later o i h sent (λ g less. plain g (omega arith)) in
     let n = next-at o (i + h) x q (plain h (omega arith)) in (
-      λ d a b. on-tick-add o x d a ∙ n .silent d a b,
+      λ d a b. on-tick-add o x d a ∙ n .silent d a b ∙ between-add o x d a,
       on-tick-add o x (period o) (period-some o) ∙ n .sent ∙ same-frame (after-keeps o x) (i + h + 1),
     )
 
 pub held : the.Held
 held o h loaded j some =
     let q = o .channel .sequencer in
-    repeat o o (q .word) (q .left) j some refl (laws.hold (wordAt o) (o .n) (period o) q h loaded (period-some o) j)
+    repeat o o (q .word) (q .left) j some refl refl (laws.hold (wordAt o) (o .n) (period o) q h loaded (period-some o) j)
 
 -- after a tick that counts down, or repeats on its last count, ticks are left
 left-repeating : (s : Sequencer) (p : ℕ) → 1 ≤ p → 1 ≤ repeating s p .sequencer .left
@@ -119,5 +119,5 @@ held-stays o h loaded j =
 
 pub held-word : the.HeldWord
 held-word o i sent stay j some =
-    repeat o o (wordAt o i) (period o) j some refl
+    repeat o o (wordAt o i) (period o) j some refl refl
     (laws.pause-repeats (wordAt o) (o .n) (period o) i (o .channel .sequencer) sent stay (period-some o) j)

@@ -4,12 +4,13 @@ use Rattle.timing.proofs.Bridge.{bridge, later-ticks}
 use Rattle.timing.proofs.Starts.{start-by-command, start-by-event, start-keeps}
 use Rattle.timing.proofs.Series.{countdown, plain-next, series, held, held-stays, held-word}
 use Rattle.timing.proofs.Resuming.{resume-by-event, resume-by-command, other-pause, vme-pause, not-by-d1, meanwhile}
-use Rattle.timing.proofs.Loaded.{loaded}
+use Rattle.timing.proofs.Loaded.{loaded, between-told}
 
 pub timing : the.Timing
 timing =
     record {
       bridge = bridge;
+      between-told = between-told;
       later-ticks = later-ticks;
       start-by-command = start-by-command;
       start-by-event = start-by-event;

@@ -2,6 +2,8 @@
 -- answers.
 use Prim.Native.Nat.{ℕ, _+_, _-_, _*_, _%_, _≤_, _<_}
 use mathlib.Core.Path.{_≡_}
+use mathlib.Core.Bool.{cond}
+use lib.Dec.{eqb}
 use lib.ListN.{getD, replicate}
 use Rattle.frame.specs.Frames.{encoded}
 use Rattle.status.specs.Bits.{bitOf}
@@ -9,10 +11,11 @@ use Rattle.registers.specs.Map.{periodOf, secondActive}
 use Rattle.sequencer.specs.declared.Sequencer.{Sequencer}
 use Rattle.sequencer.specs.declared.Stage.the-variants as stage
 use Rattle.sequencer.specs.declared.Transmission.{Transmission}
+use Rattle.sequencer.specs.declared.Transmission.the-variants as transmission
 use Rattle.sequencer.specs.Runs.{ticks, sends, JustSent, Beat}
 use Rattle.channel_core.specs.Answers.{Answer}
 use Rattle.channel_core.specs.Answers as ans
-use Rattle.channel_core.specs.Behaviour.{setpointPlace}
+use Rattle.channel_core.specs.Behaviour.{setpointPlace, commandAnswer, sendFrame}
 use Rattle.channel.specs.OneChannel.{OneChannel, ChannelCall, tick, transitions, response}
 
 -- a tick, lent memory of the right length
@@ -40,6 +43,16 @@ period o = periodOf (o .channel .registers .clock)
 abbrev pub frameOf : OneChannel → ℕ → Answer
 frameOf o word = ans.frame (encoded (o .channel .registers .id) (word % 65536) 0)
 
+-- what tick j from now answers where no setpoint leaves: the command frame on the next tick, if one is due, and none. (Whether one is due is told by
+-- calls and answers: `BetweenTold`.)
+abbrev pub between : OneChannel → ℕ → Answer
+between o j = cond (eqb j 1) (commandAnswer (o .channel .commands)) ans.none
+
+-- what it answers where this is transmitted
+abbrev pub answerOn : OneChannel → ℕ → Transmission → Answer
+answerOn o j transmission.Nothing = between o j
+answerOn o j (transmission.Word word k) = sendFrame (o .channel .registers .id) (transmission.Word word k)
+
 -- the sequencer by itself, handed this channel's words, depth and period: after k ticks, and what its tick j transmits
 abbrev pub played : OneChannel → ℕ → Sequencer
 played o k = ticks (wordAt o) (o .n) (period o) (o .channel .sequencer) k
@@ -59,16 +72,16 @@ pub record Keeps (o p : OneChannel) : Type 0 where
 abbrev pub Sent : OneChannel → ℕ → Type 0
 Sent o i = JustSent (wordAt o) (o .n) (period o) i (o .channel .sequencer)
 
--- the next frame is that of the word at index i, and leaves on tick k: ticks 1 to k − 1 answer none
+-- the next setpoint is the word at index i, and leaves on tick k: on ticks 1 to k − 1 none does
 pub record NextFrame (o : OneChannel) (k i : ℕ) : Type 0 where
-  pub silent : (j : ℕ) → 1 ≤ j → j < k → onTick o j ≡ ans.none
+  pub silent : (j : ℕ) → 1 ≤ j → j < k → onTick o j ≡ between o j
   pub sent : onTick o k ≡ frameOf o (wordAt o i)
   pub done : Sent (after o k) i
 
--- x is what tick j answers where this word is repeated: its frame on tick `left` and each period after it, none on others
+-- x is what tick j answers where this word is repeated: its frame on tick `left` and each period after it, no setpoint's on others
 pub record Repeat (o : OneChannel) (word left j : ℕ) (x : Answer) : Type 0 where
   pub on : Beat left (period o) j → x ≡ frameOf o word
-  pub off : (Beat left (period o) j → ⊥) → x ≡ ans.none
+  pub off : (Beat left (period o) j → ⊥) → x ≡ between o j
 
 -- so for the kept word of `o`, with its ticks to the next send
 abbrev pub KeptRepeat : OneChannel → ℕ → Answer → Type 0
@@ -78,7 +91,7 @@ KeptRepeat o j x = Repeat o (o .channel .sequencer .word) (o .channel .sequencer
 -- are silent and the frame of the index due leaves on the 10th, restarting the clock
 pub record Resumes (o r : OneChannel) (delay : ℕ) : Type 0 where
   pub repeats : (j : ℕ) → 1 ≤ j → j ≤ delay → KeptRepeat o j (onTick r j)
-  pub silent : (j : ℕ) → delay < j → j < delay + 10 → onTick r j ≡ ans.none
+  pub silent : (j : ℕ) → delay < j → j < delay + 10 → onTick r j ≡ between o j
   pub sent : onTick r (delay + 10) ≡ frameOf o (wordAt o (o .channel .sequencer .index))
   pub done : Sent (after r (delay + 10)) (o .channel .sequencer .index)
   pub under-way : (j : ℕ) → j < delay + 10 → after r j .channel .sequencer .stage ≡ stage.Resuming

@@ -1,8 +1,10 @@
--- Document 01, 'A channel's life': when which frame leaves, over what ticks ANSWER on one channel by itself. Of any state `o`, reachable or not.
+-- Document 01, 'A channel's life': when which setpoint leaves, over what ticks ANSWER on one channel by itself. Of any state `o`, reachable or not.
+-- Document 02, card 1: a command frame may leave on the next tick, where no setpoint does (`between`).
 use Prim.Native.Nat.{ℕ, _+_, _*_, _≤_, _<_}
 use mathlib.Core.Path.{_≡_}
-use mathlib.Core.Bool.{Bool, true, false}
+use mathlib.Core.Bool.{Bool, true, false, cond}
 use mathlib.Core.List.{List}
+use lib.Dec.{eqb}
 use Rattle.status.specs.Bits.{bitAt}
 use Rattle.registers.specs.Map.{triggersOf, delayOf, startEvent, groupEndEvent}
 use Rattle.sequencer.specs.declared.Kind.the-variants as kind
@@ -10,10 +12,11 @@ use Rattle.sequencer.specs.declared.Stage.the-variants as stage
 use Rattle.sequencer.specs.Playing.{isIdle}
 use Rattle.sequencer.specs.Runs.{kindAt, advances, holds}
 use Rattle.channel_core.specs.Answers as ans
-use Rattle.channel_core.specs.State.{withStatus, withSequencer}
-use Rattle.channel_core.specs.Behaviour.{sendFrame}
+use Rattle.channel_core.specs.State.{withStatus, withSequencer, withCommands}
+use Rattle.channel_core.specs.Behaviour.{commandAnswer}
 use Rattle.channel.specs.OneChannel.{OneChannel, ChannelCall, writeRegister, event, transition, transitions, oneChannel, withChannel}
-use Rattle.timing.specs.Ticking.{after, onTick, wordAt, period, frameOf, played, plays, Keeps, Sent, NextFrame, Repeat, KeptRepeat, Resumes, Still}
+use Rattle.histories.specs.Commands.{commandsOver}
+use Rattle.timing.specs.Ticking.{after, onTick, wordAt, period, between, answerOn, frameOf, played, plays, Keeps, Sent, NextFrame, Repeat, KeptRepeat, Resumes, Still}
 
 -- ---- The two calls that start and resume, each lent memory of the right length
 
@@ -33,13 +36,21 @@ delay o bank = delayOf (o .channel .registers) bank (o .user)
 
 -- ---- A. Ticks
 
--- k ticks change the status and the sequencer alone; the sequencer is ticked k times with the words of the current user's active buffer; tick k + 1
--- answers none where it transmits nothing, else the frame of its word
+-- k ticks change the status, the sequencer and the command frames alone; the sequencer is ticked k times with the words of the current user's active
+-- buffer; tick k + 1 answers the frame of the word that it transmits, and else a command frame on the next tick, if one is due, and none
 abbrev pub Bridge : Type 0
 Bridge =
     (o : OneChannel) (k : ℕ)
-    → (after o k ≡ withChannel o (withSequencer (withStatus (o .channel) (after o k .channel .status)) (played o k)))
-    × (onTick o (k + 1) ≡ sendFrame (o .channel .registers .id) (plays o (k + 1)))
+    → (after o k
+    ≡ withChannel o (withCommands (withSequencer (withStatus (o .channel) (after o k .channel .status)) (played o k)) (after o k .channel .commands)))
+    × (onTick o (k + 1) ≡ answerOn o (k + 1) (plays o (k + 1)))
+
+-- the command frame of the next tick, of every channel that calls lead to: told by those calls and their answers, in document 02's terms
+abbrev pub BetweenTold : Type 0
+BetweenTold =
+    (n m : ℕ) (setpoints readbacks : List ℕ) (calls : List ChannelCall) (j : ℕ)
+    → between (transitions (oneChannel n m setpoints readbacks) calls) j
+    ≡ cond (eqb j 1) (commandAnswer (commandsOver n m setpoints readbacks calls)) ans.none
 
 -- so tick k + j from now is tick j after k ticks
 abbrev pub LaterTicks : Type 0
@@ -83,7 +94,7 @@ PlainNext = (o : OneChannel) (i : ℕ) → Sent o i → kindAt (wordAt o) (o .n)
 abbrev pub Series : Type 0
 Series =
     (o : OneChannel) (i h : ℕ) → Sent o i → ((g : ℕ) → g ≤ h → kindAt (wordAt o) (o .n) (i + g) ≡ kind.Plain)
-    → ((d : ℕ) → 1 ≤ d → d < period o → onTick o (h * period o + d) ≡ ans.none)
+    → ((d : ℕ) → 1 ≤ d → d < period o → onTick o (h * period o + d) ≡ between o (h * period o + d))
     × (onTick o (h * period o + period o) ≡ frameOf o (wordAt o (i + h + 1)))
 
 -- paused, or after the last word: the kept word on the beat, and nothing off it
@@ -161,6 +172,7 @@ Loaded =
 
 pub record Timing : Type 0 where
   pub bridge : Bridge
+  pub between-told : BetweenTold
   pub later-ticks : LaterTicks
   pub start-by-command : StartByCommand
   pub start-by-event : StartByEvent

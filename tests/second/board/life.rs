@@ -2,7 +2,7 @@
 //! these are.
 
 use super::Board;
-use crate::channel::{hold, status_of, Function, Hold, ACTIVE, COUNT, EE, ENABLE, GE, ID, RUN, SWITCH};
+use crate::channel::{hold, status_of, Function, Hold, Window, ACTIVE, COUNT, EE, ENABLE, GE, ID, RUN, SWITCH};
 use crate::frame::frame;
 use crate::tally::Did;
 
@@ -47,6 +47,7 @@ impl Board {
             self.tally.add(Did::group_end_disarmed);
         }
         self.end_function(c, Did::ee_by_group_end);
+        self.command_at_group_end(c);
         let (m, user, ch) = (self.m as usize, self.user as usize, &mut self.ch[c]);
         // "02000000h goes after the stored readbacks if there is space"
         let active = ch.active_readback();
@@ -67,17 +68,26 @@ impl Board {
                 self.tally.add(if u + 1 == user { Did::switch_current_user } else { Did::switch_other_user });
             }
         }
-        // "the setpoint count is shown, then cleared"
+        self.show_count(c);
+        self.latch(c, GE);
+    }
+
+    /// "the setpoint count is shown, then cleared"
+    fn show_count(&mut self, c: usize) {
+        let ch = &mut self.ch[c];
         if ch.count != 0 {
             self.tally.add(Did::count_shown_not_zero);
         }
         if ch.count > 0xFFFF {
             self.tally.add(Did::count_past_16_bits);
         }
+        if ch.count != 0 && ch.commands != 0 {
+            self.tally.add(Did::command_not_in_setpoint_count);
+        }
         ch.w[COUNT] = (ch.count >> 16) as u16;
         ch.w[COUNT + 1] = ch.count as u16;
         ch.count = 0;
-        self.latch(c, GE);
+        ch.commands = 0;
     }
 
     /// "It loads the current user's start delay (0 for a command) plus 10. The first setpoint
@@ -131,6 +141,7 @@ impl Board {
     pub(super) fn act(&mut self, c: usize, asked: Asked, readbacks: &mut [u32]) {
         if asked.group_end {
             self.tally.add(if asked.by_command { Did::group_end_by_command } else { Did::group_end_by_event });
+            self.tally_command_due(c, &asked);
             self.group_end(c, readbacks);
         }
         if asked.start {
@@ -215,6 +226,7 @@ impl Board {
         let index = self.ch[c].function.as_ref()?.index;
         let at = self.word_at(c, user, self.ch[c].active_setpoint(user), index);
         let word = if is_next { self.next_word(c, at, setpoints)? } else { self.repeat(c, at, setpoints)? };
+        self.close_window(c, Window::ClosedBySetpoint);
         let ch = &mut self.ch[c];
         let period = ch.period();
         let f = ch.function.as_mut()?;

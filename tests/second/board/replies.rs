@@ -1,7 +1,7 @@
 //! Replies, and the readbacks that are kept of them. Quotations are document 01's.
 
 use super::Board;
-use crate::channel::{Function, CRC};
+use crate::channel::{Function, Window, CRC};
 use crate::frame::{badly_framed, crc};
 use crate::tally::Did;
 
@@ -17,6 +17,8 @@ impl Board {
     /// idle, and fewer than six replies have followed the last such send; else it is "unasked"."
     fn unasked(&self, c: usize) -> Option<Did> {
         match self.ch[c].function {
+            // the six pairs are taken
+            _ if self.ch[c].window == Window::Open => Some(Did::command_reply_seventh),
             None => Some(Did::unasked_idle),
             Some(Function { sent: None, .. }) => Some(Did::unasked_before_send),
             Some(Function { sent: Some((_, 6)), .. }) => Some(Did::unasked_seventh),
@@ -32,6 +34,11 @@ impl Board {
             return Err(7);
         }
         let wrong = crc((reply >> 10) as u32) != (reply >> 2) as u8;
+        if self.is_for_command(c) {
+            self.keep_for_command(c, reply, wrong);
+            return Ok(Reply::Kept);
+        }
+        self.tally_reply_after_window(c);
         if let Some(why) = self.unasked(c) {
             self.tally.add(why);
             if wrong {

@@ -1,22 +1,23 @@
 //! The acts of a story: one or several calls that suit the state, or spite it.
 
+use super::commands::{command, command_with_full_buffer};
 use super::dice::Dice;
 use super::story::{delay, load, reply, ticks, word, Taste, BASE};
 use super::world::{Op, World};
 use crate::board::Peek;
 
 /// What an act is made with: the dice, the story's taste, and a channel as it is.
-struct Scene<'a> {
-    d: &'a Dice,
-    t: &'a Taste,
-    c: u32,
+pub struct Scene<'a> {
+    pub d: &'a Dice,
+    pub t: &'a Taste,
+    pub c: u32,
     p: Peek,
-    user: u32,
+    pub user: u32,
 }
 
 impl Scene<'_> {
     /// Where the channel's registers start.
-    fn at(&self) -> u32 {
+    pub fn at(&self) -> u32 {
         BASE * self.c
     }
 }
@@ -28,13 +29,13 @@ pub fn act(world: &mut World, d: &Dice, t: &Taste) {
     let c = d.of(&t.channels);
     let s = Scene { d, t, c, p: world.board().peek(c as usize - 1), user: world.board().user };
     let choice = if !s.p.armed {
-        d.weighed(&[50, 0, 8, 6, 4, 0, 8, 6, 10, 12])
+        d.weighed(&[50, 0, 8, 6, 4, 0, 8, 6, 10, 12, 16])
     } else if s.p.idle {
-        d.weighed(&[2, 50, 8, 4, 4, 0, 10, 4, 12, 8])
+        d.weighed(&[2, 50, 8, 4, 4, 0, 10, 4, 12, 8, 25])
     } else if s.p.pause > 0 {
-        d.weighed(&[1, 4, 24, 18, 4, 35, 3, 2, 5, 4])
+        d.weighed(&[1, 4, 24, 18, 4, 35, 3, 2, 5, 4, 6])
     } else {
-        d.weighed(&[1, 4, 36, 25, 9, 2, 5, 3, 8, 4])
+        d.weighed(&[1, 4, 36, 25, 9, 2, 5, 3, 8, 4, 7])
     };
     match choice {
         0 => world.put(if d.chance(93) { Op::Arm(c) } else { Op::Disarm(c) }, d),
@@ -46,12 +47,13 @@ pub fn act(world: &mut World, d: &Dice, t: &Taste) {
         6 => new_words(world, &s),
         7 => interruption(world, &s),
         8 => statuses(world, &s),
-        _ => any_register(world, &s),
+        9 => any_register(world, &s),
+        _ => command(world, &s),
     }
 }
 
 /// A code that the named event register of the channel answers to, if it is in the taste.
-fn event_for(world: &World, s: &Scene, offset: u32) -> Op {
+pub fn event_for(world: &World, s: &Scene, offset: u32) -> Op {
     let mut board = world.board().clone();
     match board.read(s.at() + offset) {
         Ok(v) if v & 0x100 != 0 => Op::Event(v as u8),
@@ -74,6 +76,9 @@ fn replies(world: &mut World, s: &Scene) {
     }
     if s.t.fills && !s.p.idle {
         fill(world, s);
+        if s.d.chance(20) {
+            command_with_full_buffer(world, s);
+        }
     }
 }
 
@@ -201,10 +206,10 @@ fn statuses(world: &mut World, s: &Scene) {
 fn address(d: &Dice, t: &Taste) -> u32 {
     let c = d.of(&t.channels);
     match d.weighed(&[60, 10, 10, 8, 6, 6]) {
-        0 => BASE * c + 2 * d.below(0x72),
+        0 => BASE * c + 2 * d.below(0x82),
         1 => 0x20 + d.below(0x10),
         2 => BASE * c + d.below(0x100),
-        3 => BASE * d.below(7) + 2 * d.below(0x72),
+        3 => BASE * d.below(7) + 2 * d.below(0x82),
         4 => d.below(0x800),
         _ => d.below(65_536),
     }

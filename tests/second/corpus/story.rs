@@ -195,7 +195,8 @@ fn reopen(world: &mut World, d: &Dice) {
                 Op::Arm(c), Op::Read(BASE * c + 0x0E), Op::Read(0x28), Op::Write(BASE * c + 8, 4), Op::Write(BASE * c + 8, 1),
                 Op::Set { c, user: 1, buffer: 1, index: 0, word: 1 }, Op::Reply(c, 3), Op::Reply(c, 2), Op::Ticks(3), Op::Event(1),
                 Op::User(2), Op::Level, Op::Retired { c, length: true, lent: 0 }, Op::Retired { c, length: true, lent: 6 },
-                Op::Retired { c, length: false, lent: 0 }, Op::Disarm(c),
+                Op::Retired { c, length: false, lent: 0 }, Op::Disarm(c), Op::Write(BASE * c + 0xFC, 1), Op::Write(BASE * c + 0xFC, 2),
+                Op::Write(BASE * c + 0xE0, 0x0315), Op::Read(BASE * c + 0xE0),
             ]);
             world.put(op, d);
         }

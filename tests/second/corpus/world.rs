@@ -113,6 +113,14 @@ impl World {
             Bench::Script(bench, _) => &bench.board,
         }
     }
+    /// No story lets a closed board come to a send: it has no word to send (CALLS.md).
+    fn is_closed_and_sends(&self) -> bool {
+        let sends = |c| {
+            let p = self.board().peek(c);
+            !p.idle || p.command_is_due
+        };
+        self.board().n == 0 && (0..4).any(sends)
+    }
     pub fn records(&self) -> usize {
         match self.bench {
             Bench::Run(_) => self.bytes.len() / 8,
@@ -129,8 +137,7 @@ impl World {
         if self.bytes.len() + 16 > 65_536 {
             return;
         }
-        // No story lets a closed board come to a send: it has no word to send (CALLS.md).
-        if self.board().n == 0 && record[0] == 9 && (0..4).any(|c| !self.board().peek(c).idle) {
+        if record[0] == 9 && self.is_closed_and_sends() {
             return;
         }
         match &mut self.bench {

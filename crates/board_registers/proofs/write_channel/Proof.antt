@@ -55,7 +55,7 @@ returns c =
     let p = k .before .before in
     let x = p .before .channel .ensures in (
       simp (c .with-channel .ensures, k .write-register .ensures .0, x),
-      simp (k .write-register .ensures .1),
+      simp (k .write-register .ensures .1, x),
       simp (k .write-register .ensures .2, x, add-sub-cancel-left, p .part-start .ensures),
     )
 

@@ -1,4 +1,4 @@
--- `channel::set_armed` meets its contract: the sequencer is armed or disarmed. Assumes nothing.
+-- `channel::set_armed` meets its contract: the sequencer is armed, or disarmed and what waits dropped. Assumes nothing.
 use Rattle.channel.specs.Calls.{armedOf, disarmedOf}
 use borrow.Author.Needs.{needs}
 use Rattle.channel.proofs.set_armed.Statement.{statement}
@@ -14,9 +14,13 @@ returns c = simp (c .armed .ensures, c .before .if1 .taken)
 disarmed-requires : tie.Need-disarmed-requires
 disarmed-requires c κs = search needs
 
+dropped-requires : tie.Need-dropped-requires
+dropped-requires c κs = search needs
+
 returns-2 : tie.Need-returns-2
 unfolding disarmedOf
-returns-2 c = simp (c .disarmed .ensures, c .before .if1 .left)
+returns-2 c = simp (c .dropped .ensures, c .before .disarmed .ensures, c .before .before .if1 .left)
 
 pub set-armed-spec : {M : Type 1} → statement M
-set-armed-spec = tie.close (tie.spec armed-requires returns disarmed-requires returns-2)
+set-armed-spec =
+    tie.close (tie.spec armed-requires returns disarmed-requires dropped-requires returns-2)

@@ -6,6 +6,9 @@ use Rattle.channel_core.proofs.send_line.Tie as tie
 enum-told : tie.Need-enum-told
 enum-told c = search needs
 
+command-line-requires : tie.Need-command-line-requires
+command-line-requires c κs = search needs
+
 enum-known-sent : tie.Need-enum-known-sent
 enum-known-sent c = search needs
 
@@ -13,11 +16,12 @@ setpoint-frame-requires : tie.Need-setpoint-frame-requires
 setpoint-frame-requires c κs = search needs
 
 returns : tie.Need-returns
-returns c = search needs
+returns c = simp (c .before .enum-told .given .1, c .command-line .ensures)
 
 returns-2 : tie.Need-returns-2
 returns-2 c = simp (c .before .before .sent .given .1, c .setpoint-frame .ensures)
 
 pub send-line-spec : {M : Type 1} → statement M
 send-line-spec =
-    tie.close (tie.spec enum-told enum-known-sent setpoint-frame-requires returns returns-2)
+    tie.close
+    (tie.spec enum-told command-line-requires enum-known-sent setpoint-frame-requires returns returns-2)

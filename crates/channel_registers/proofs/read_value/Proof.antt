@@ -1,6 +1,6 @@
--- `channel_registers::read_value` meets its contract: Interrupt Enable, the two statuses, and the other registers as loaded. Assumes nothing.
+-- `channel_registers::read_value` meets its contract: Interrupt Enable, the two statuses, E0–FE, and the other registers as loaded. Assumes nothing.
 use Rattle.channel_registers.specs.Calls.{readValue}
-use borrow.Author.Tests.{eq-eqb, ne-eqb}
+use borrow.Author.Tests.{eq-eqb, ne-eqb, le-leb, lt-leb}
 use borrow.Author.Needs.{needs}
 use Rattle.channel_registers.proofs.read_value.Statement.{statement}
 use Rattle.channel_registers.proofs.read_value.Tie as tie
@@ -38,9 +38,25 @@ loaded-requires c κs = search needs
 returns-4 : tie.Need-returns-4
 unfolding readValue
 returns-4 c =
-    let s = c .before .before in
+    let s = c .before .before .before in
     simp (
       c .loaded .ensures,
+      le-leb _ _ (c .before .before .if4 .taken),
+      ne-eqb _ _ (s .if3 .left),
+      ne-eqb _ _ (s .before .if2 .left),
+      ne-eqb _ _ (s .before .before .if1 .left),
+    )
+
+loaded-requires-2 : tie.Need-loaded-requires-2
+loaded-requires-2 c κs = search needs
+
+returns-5 : tie.Need-returns-5
+unfolding readValue
+returns-5 c =
+    let s = c .before .before .before in
+    simp (
+      c .loaded2 .ensures,
+      lt-leb _ _ (c .before .before .if4 .left),
       ne-eqb _ _ (s .if3 .left),
       ne-eqb _ _ (s .before .if2 .left),
       ne-eqb _ _ (s .before .before .if1 .left),
@@ -56,4 +72,6 @@ read-value-spec =
     word-of-bits-requires-2
     returns-3
     loaded-requires
-    returns-4)
+    returns-4
+    loaded-requires-2
+    returns-5)

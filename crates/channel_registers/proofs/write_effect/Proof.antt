@@ -1,6 +1,6 @@
--- `channel_registers::write_effect` meets its contract: Interrupt Enable, Reset and Commands act, and any other register holds the value. Assumes nothing.
+-- `channel_registers::write_effect` meets its contract: Interrupt Enable, Reset, Commands and E0–FE act, and any other register holds the value. Assumes nothing.
 use Rattle.channel_registers.specs.Calls.{registerEffect, registerWords}
-use borrow.Author.Tests.{eq-eqb, ne-eqb}
+use borrow.Author.Tests.{eq-eqb, ne-eqb, le-leb, lt-leb}
 use borrow.Author.Needs.{needs}
 use Rattle.channel_registers.proofs.write_effect.Statement.{statement}
 use Rattle.channel_registers.proofs.write_effect.Tie as tie
@@ -62,9 +62,33 @@ stored-requires c κs = search needs
 returns-5 : tie.Need-returns-5
 unfolding registerEffect registerWords
 returns-5 c =
-    let s = c .before .before in
+    let s = c .before .before .before in
     let other = ne-eqb _ _ (s .if4 .left) in (
-      simp (c .stored .ensures, other, ne-eqb _ _ (s .before .if2 .left), ne-eqb _ _ (s .before .before .if1 .left)),
+      simp (
+        c .stored .ensures,
+        le-leb _ _ (c .before .before .if5 .taken),
+        other,
+        ne-eqb _ _ (s .before .if2 .left),
+        ne-eqb _ _ (s .before .before .if1 .left),
+      ),
+      simp (other),
+    )
+
+stored-requires-2 : tie.Need-stored-requires-2
+stored-requires-2 c κs = search needs
+
+returns-6 : tie.Need-returns-6
+unfolding registerEffect registerWords
+returns-6 c =
+    let s = c .before .before .before in
+    let other = ne-eqb _ _ (s .if4 .left) in (
+      simp (
+        c .stored2 .ensures,
+        lt-leb _ _ (c .before .before .if5 .left),
+        other,
+        ne-eqb _ _ (s .before .if2 .left),
+        ne-eqb _ _ (s .before .before .if1 .left),
+      ),
       simp (other),
     )
 
@@ -82,4 +106,6 @@ write-effect-spec =
     same-length
     returns-4
     stored-requires
-    returns-5)
+    returns-5
+    stored-requires-2
+    returns-6)

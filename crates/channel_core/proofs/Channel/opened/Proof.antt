@@ -16,17 +16,21 @@ opened-requires-3 c κs = search needs
 opened-requires-4 : tie.Need-opened-requires-4
 opened-requires-4 c κs = search needs
 
+opened-requires-5 : tie.Need-opened-requires-5
+opened-requires-5 c κs = search needs
+
 returns : tie.Need-returns
 unfolding opened
 returns c =
     simp (
-      c .opened4 .ensures,
-      c .before .opened3 .ensures,
-      c .before .before .opened2 .ensures,
-      c .before .before .before .opened .ensures,
+      c .opened5 .ensures,
+      c .before .opened4 .ensures,
+      c .before .before .opened3 .ensures,
+      c .before .before .before .opened2 .ensures,
+      c .before .before .before .before .opened .ensures,
     )
 
 pub opened-spec : {M : Type 1} → statement M
 opened-spec =
     tie.close
-    (tie.spec opened-requires opened-requires-2 opened-requires-3 opened-requires-4 returns)
+    (tie.spec opened-requires opened-requires-2 opened-requires-3 opened-requires-4 opened-requires-5 returns)

@@ -1,4 +1,4 @@
--- `channel_core::Channel::tick` meets its contract: the sequencer's tick, with the condition and the frame of what it sent. Assumes nothing.
+-- `channel_core::Channel::tick` meets its contract: the sequencer's tick, with the condition and the frame of what it sent, and a command frame's. Assumes nothing.
 use mathlib.Core.Path.{_≡_}
 use denote.Ref.{now}
 use Rattle.channel_core.specs.Behaviour.{playedOf, tickOf, tickAnswer}
@@ -9,7 +9,7 @@ use Rattle.channel_core.proofs.Channel.tick.Tie as tie
 -- what the sequencer's tick answered, said of the arguments
 played :
     (c : tie.After-tick) →
-    let a = c .before .before .before .before .before .before .before .args in
+    let a = c .before .before .before .before .before .before .before .before .args in
     c .tick .result ≡ playedOf (a .self) (now (a .setpoints)) (a .n) (a .user)
 played c = simp (c .tick .ensures, c .before .period .ensures, c .before .before .due .ensures)
 
@@ -25,15 +25,24 @@ tick-requires c κs = search needs
 send-status-requires : tie.Need-send-status-requires
 send-status-requires c κs = search needs
 
+sends-requires : tie.Need-sends-requires
+sends-requires c κs = search needs
+
+ticked-requires : tie.Need-ticked-requires
+ticked-requires c κs = search needs
+
 send-line-requires : tie.Need-send-line-requires
 send-line-requires c κs = search needs
 
 returns : tie.Need-returns
 unfolding tickOf tickAnswer
 returns c =
-    let s = c .before in
+    let s = c .before .before .before in
     let t = s .before .before in
-    rw (← played t) (simp (s .send-status .ensures), c .send-line .ensures)
+    rw (← played t) (
+      simp (s .send-status .ensures, c .before .ticked .ensures, c .before .before .sends .ensures),
+      c .send-line .ensures,
+    )
 
 pub tick-spec : {M : Type 1} → statement M
 tick-spec =
@@ -43,5 +52,7 @@ tick-spec =
     period-requires
     tick-requires
     send-status-requires
+    sends-requires
+    ticked-requires
     send-line-requires
     returns)
