@@ -47,8 +47,9 @@ const ARCHITECTURE: &str = "docs/ARCHITECTURE.md";
 // - DECISIONS: the quotes of the document, one in a line, with no line break after the last.
 const RECORDED: &[(&str, &str, usize, &str)] = &[
     (RULES, "document 01", 12836, "fbe055717a213fa1f2da2d30af2a07d97468556963ed01d9a36c4ea7241166e6"),
-    (DECISIONS, "document 01", 8233, "ff9c861b788ba3718a6b73d54fad11b19e4e08205dce8e4fed37e1b54ec1da6c"),
-    (DECISIONS, "document 02", 723, "51681ffa7569f19996e953815b0c6e93e9d5ea341aaaa4a6f97abe0e4fedf139"),
+    (RULES, "card 1", 1096, "cb67ec1f20e0ef75abf3acd962853cf5ae815772bf67221802b1f90b0cc82c4e"),
+    (DECISIONS, "document 01", 8323, "1ff7ee9d0ac34794ad3a1d6b236f5a44dfcb9ec35411bb2f4a99c38ed65f523d"),
+    (DECISIONS, "document 02", 1171, "2ee4baaa8dcaa3582db0e0d1562ae82b46633a20b93c3fcba07e33728afe8fa2"),
 ];
 
 // The entries of DECISIONS.md that a page cites: "entry D1", "Entry D1", "entries D1 (..) and D2", "entries D1 to D2".

@@ -71,7 +71,7 @@ abbrev pub oneChannel : ℕ → ℕ → List ℕ → List ℕ → OneChannel
 oneChannel n m setpoints readbacks =
     record { n = n; m = m; user = 1; channel = opened; setpoints = setpoints; readbacks = readbacks }
 
--- ---- Refusals, in the order of document 01's table
+-- ---- Refusals, in the order of document 01's table; one that a request adds where its card says
 
 -- 1: "lent lengths other than 64 × N and 8 × M"
 abbrev pub lengthRefusal : ℕ → ℕ → ℕ

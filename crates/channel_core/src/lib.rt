@@ -105,7 +105,7 @@ fn sends(sent: Transmission) -> bool
 }
 
 // The command frame that is due, or none.
-fn command_line(commands: CommandFrames) -> Line
+fn due_line(commands: CommandFrames) -> Line
     ensures { λ r. ⌜ lineOf r ≡ commandAnswer commands ⌝ }
 {
     if commands.is_due() {
@@ -119,7 +119,7 @@ fn send_line(id: u8, commands: CommandFrames, sent: Transmission) -> Line
     ensures { λ r. ⌜ lineOf r ≡ tickLine id commands sent ⌝ }
 {
     match sent {
-        Transmission::Nothing => command_line(commands),
+        Transmission::Nothing => due_line(commands),
         Transmission::Word { word, condition: _ } => Line::Frame(setpoint_frame(id, word)),
     }
 }

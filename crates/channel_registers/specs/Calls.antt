@@ -1,6 +1,6 @@
 -- Document 01, 'Calls' and 'Register map': register write and register read of one channel, over its own part of the lent memory.
 -- Document 02, card 1: E0–FE, and refusal 10.
--- Each refusal is decided by one definition (0: none), in the order of document 01's table; what a call does goes by cases on it.
+-- Each refusal is decided by one definition (0: none), in the order of document 01's table, 10 where its card says; what a call does goes by cases on it.
 use Prim.Native.Nat.{ℕ}
 use mathlib.Core.Bool.{Bool, cond, not, _&&_}
 use mathlib.Core.List.{List}
@@ -25,14 +25,14 @@ use Rattle.channel_core.specs.Behaviour.{commanded, commandWords}
 -- ---- Register write
 
 -- "FC written with D0 while disarmed or not idle", D1 or no D1
-abbrev pub functionActive : Channel → ℕ → ℕ → Bool
-functionActive c offset value = eqb offset 0xfc && (bitAt value 0 && not (c .sequencer .armed && isIdle (c .sequencer .stage)))
+abbrev pub cannotSend : Channel → ℕ → ℕ → Bool
+cannotSend c offset value = eqb offset 0xfc && (bitAt value 0 && not (c .sequencer .armed && isIdle (c .sequencer .stage)))
 
 -- 3, 4; 10 "checked after 4"; 5: "clock code above 3", "A code is the whole word written"
 unfoldable pub registerRefusal : Channel → ℕ → ℕ → ℕ
 registerRefusal c offset value =
     cond (eqb (writeRefusal (channelAccess offset)) 0)
-    (cond (functionActive c offset value) (numberOf refusal.FunctionActive)
+    (cond (cannotSend c offset value) (numberOf refusal.FunctionActive)
     (cond (eqb offset 0x0a) (cond (ltb 3 value) (numberOf refusal.InvalidClock) 0) 0))
     (writeRefusal (channelAccess offset))
 

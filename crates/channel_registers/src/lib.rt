@@ -8,7 +8,7 @@ ghost use mathlib.Core.Path.{_≡_};
 ghost use Rattle.refusal.specs.Refusals.{verdictNumber};
 ghost use Rattle.channel_core.specs.Answers.{outcomeOf};
 ghost use Rattle.channel_registers.specs.Answers.{readOutcomeOf};
-ghost use Rattle.channel_registers.specs.Calls.{functionActive, registerRefusal, registerEffect, registerWords, writtenOf, writtenAnswer, writtenWords, readEffect, readValue, readOf, readAnswer};
+ghost use Rattle.channel_registers.specs.Calls.{cannotSend, registerRefusal, registerEffect, registerWords, writtenOf, writtenAnswer, writtenWords, readEffect, readValue, readOf, readAnswer};
 
 // The answer of a register read.
 pub enum ReadOutcome {
@@ -27,8 +27,8 @@ pub struct Read {
 }
 
 // Whether a write is one to FC with D0, while the channel is disarmed or not idle.
-fn function_active(c: Channel, offset: u16, value: u16) -> bool
-    ensures { λ r. ⌜ r ≡ functionActive c offset value ⌝ }
+fn cannot_send(c: Channel, offset: u16, value: u16) -> bool
+    ensures { λ r. ⌜ r ≡ cannotSend c offset value ⌝ }
 {
     if offset != 0xfc {
         return false;
@@ -51,7 +51,7 @@ fn write_check(c: Channel, offset: u16, value: u16) -> Verdict
     let verdict = register_map::write_verdict(register_map::channel_access(offset));
     match verdict {
         Verdict::Allowed => {
-            if function_active(c, offset, value) {
+            if cannot_send(c, offset, value) {
                 return Verdict::Refused(Refusal::FunctionActive);
             }
             if offset == 0x0a {

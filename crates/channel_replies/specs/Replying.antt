@@ -17,7 +17,7 @@ use Rattle.channel_core.specs.Answers.{Answer}
 use Rattle.channel_core.specs.Answers as ans
 use Rattle.channel_core.specs.State.{withStatus, withSequencer, withReadbacks, withCommands}
 
--- what becomes of a well-framed reply
+-- what becomes of a well-framed reply that no command frame takes
 unfoldable pub dispositionNow : Channel → ℕ → Disposition
 dispositionNow c m = dispositionOf (isIdle (c .sequencer .stage)) (c .sequencer .last) (c .readbacks .stored) m
 
@@ -25,7 +25,7 @@ dispositionNow c m = dispositionOf (isIdle (c .sequencer .stage)) (c .sequencer 
 abbrev pub crcStatus : Status → Bool → Status
 crcStatus s right = cond right s (latched s crcError)
 
--- what a well-framed reply is answered
+-- what such a reply is answered
 abbrev pub receiptAnswer : Disposition → Answer
 receiptAnswer disposition.Unsolicited = ans.unsolicited
 receiptAnswer disposition.Lost = ans.lost
@@ -35,7 +35,7 @@ receiptAnswer disposition.Kept = ans.kept
 abbrev pub replyCounted : Channel → Bool → Channel
 replyCounted c right = withSequencer (withStatus c (crcStatus (c .status) right)) (answered (c .sequencer))
 
--- the channel after a well-framed reply; an unasked one changes nothing
+-- the channel after it; an unasked one changes nothing
 abbrev pub receivedChannel : Disposition → Channel → ℕ → Bool → Channel
 receivedChannel disposition.Unsolicited c m right = c
 receivedChannel disposition.Lost c m right = replyCounted c right

@@ -34,7 +34,7 @@ fn crc_checked(status: Status, right: bool) -> Status
     status.latched(status::CRC_ERROR)
 }
 
-// What becomes of a well-framed reply now.
+// What becomes of a well-framed reply now that no command frame takes.
 fn disposition(c: Channel, m: u32) -> Disposition
     ensures { λ r. ⌜ r ≡ dispositionNow c m ⌝ }
 {
@@ -57,7 +57,7 @@ fn counted(c: Channel, right: bool) -> Channel
     next
 }
 
-// A well-framed reply.
+// A well-framed reply that no command frame takes.
 fn receive(
     c: Channel,
     words: &mut [u32],

@@ -27,7 +27,7 @@ use Rattle.command_frames.specs.Commanding as cmd
 use Rattle.command_frames.proofs.Laws.{ticked-idle, ticked-due}
 use Rattle.channel_core.proofs.Laws.{line-none}
 use Rattle.channel_ticks.specs.Quiet.{quietTicks, channelQuietTicks, afterQuiet}
-use Rattle.channel_ticks.specs.Ticks.{ticksOf, framesIn, framesAt, withFrame, commandTicks}
+use Rattle.channel_ticks.specs.Ticks.{ticksOf, framesIn, framesAt, withFrame, firstTicks}
 use Rattle.channel_ticks.proofs.QuietTicks as sequencer
 
 -- a channel after k quiet ticks: its sequencer's countdowns lowered
@@ -113,7 +113,7 @@ module _ (s : List ℕ) (n user : ℕ) where
         go false h = omega arith
 
   -- Of so many ticks, the tick of a command frame that is due.
-  pub commands-few : (c : Channel) (count : ℕ) → commandTicks c count ≤ count
+  pub commands-few : (c : Channel) (count : ℕ) → firstTicks c count ≤ count
   commands-few c count = go (isDue (c .commands .waiting))
     where
       go : (due : Bool) → cond due (min count 1) 0 ≤ count
@@ -121,7 +121,7 @@ module _ (s : List ℕ) (n user : ℕ) where
       go false = omega arith
 
   -- None is due after it, if there is a tick to come.
-  pub after-command-none : (c : Channel) (count : ℕ) → commandTicks c count < count → NoneDue (ticksOf c s n user (commandTicks c count))
+  pub after-command-none : (c : Channel) (count : ℕ) → firstTicks c count < count → NoneDue (ticksOf c s n user (firstTicks c count))
   unfolding ticksOf tickOf
   after-command-none c count = go (isDue (c .commands .waiting)) refl count
     where
@@ -143,8 +143,8 @@ module _ (s : List ℕ) (n user : ℕ) where
 
   -- before it: after the tick of a command frame that was due, if one was
   pub held-begun : (c b : Channel) (l : List ℕ) (count : ℕ) {k f f' : ℕ} {st : Status} {q : Sequencer} {on : Bool} {m : List ℕ}
-      → k ≡ commandTicks c count → b ≡ ticksOf c s n user (commandTicks c count) → f' ≡ framesIn c s n user (commandTicks c count)
-      → m ≡ framesAt c s n user (commandTicks c count) l
+      → k ≡ firstTicks c count → b ≡ ticksOf c s n user (firstTicks c count) → f' ≡ framesIn c s n user (firstTicks c count)
+      → m ≡ framesAt c s n user (firstTicks c count) l
       → st ≡ b .status → q ≡ b .sequencer → on ≡ b .commands .receiving → f ≡ f' → Held c b l k st q on f m
   held-begun c b l count x y z w st q on f =
       rw (x, st, q, on, f) (record { channel-is = sym y; frames-are = sym z; captured-is = sym w })

@@ -10,7 +10,7 @@ use Rattle.sequencer.specs.Playing.{withLeft, withResume}
 use Rattle.command_frames.specs.Commanding.{isDue}
 use Rattle.channel_core.specs.declared.Channel.{Channel}
 
--- idle, every tick is quiet: as many as 32 bits count
+-- idle, no tick sends a setpoint: as many as 32 bits count
 abbrev pub idleTicks : ℕ
 idleTicks = 0xffffffff
 

@@ -40,5 +40,5 @@ framesAt c s n user zero l = l
 framesAt c s n user (suc k) l = withFrame (answerAfter c s n user k) k (framesAt c s n user k l)
 
 -- of so many ticks, those that come first where a command frame is due: one, if there is one
-abbrev pub commandTicks : Channel → ℕ → ℕ
-commandTicks c count = cond (isDue (c .commands .waiting)) (min count 1) 0
+abbrev pub firstTicks : Channel → ℕ → ℕ
+firstTicks c count = cond (isDue (c .commands .waiting)) (min count 1) 0

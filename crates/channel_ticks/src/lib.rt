@@ -23,7 +23,7 @@ ghost use Rattle.channel_core.specs.Answers.{isFrame, lineOf};
 ghost use Rattle.channel_core.specs.State.{withStatus, withSequencer, withCommands};
 ghost use Rattle.channel_core.specs.Behaviour.{sendStatus, isSetpoint, sendFrame};
 ghost use Rattle.channel_ticks.specs.Quiet.{afterQuiet};
-ghost use Rattle.channel_ticks.specs.Ticks.{ticksOf, framesIn, withFrame, framesAt, commandTicks};
+ghost use Rattle.channel_ticks.specs.Ticks.{ticksOf, framesIn, withFrame, framesAt, firstTicks};
 
 // A channel after ticks in a row, and how many of them answered a frame.
 pub struct Advanced {
@@ -63,8 +63,15 @@ fn capture_line(captured: &mut [u64], line: Line) -> u32
 }
 
 // The tick of a command frame that is due, if one is: after it none is, however many ticks follow.
-fn begin(c: Channel, setpoints: &[u32], n: u32, user: u8, count: u32, captured: &mut [u64]) -> Begun
-    ensures { λ r. ⌜ (r .ticks ≡ commandTicks c count) × (r .channel ≡ ticksOf c (now (setpoints .entry)) n user (commandTicks c count)) × (r .frames ≡ framesIn c (now (setpoints .entry)) n user (commandTicks c count)) × (now (captured .exit) ≡ framesAt c (now (setpoints .entry)) n user (commandTicks c count) (now (captured .entry))) ⌝ }
+fn command_tick(
+    c: Channel,
+    setpoints: &[u32],
+    n: u32,
+    user: u8,
+    count: u32,
+    captured: &mut [u64],
+) -> Begun
+    ensures { λ r. ⌜ (r .ticks ≡ firstTicks c count) × (r .channel ≡ ticksOf c (now (setpoints .entry)) n user (firstTicks c count)) × (r .frames ≡ framesIn c (now (setpoints .entry)) n user (firstTicks c count)) × (now (captured .exit) ≡ framesAt c (now (setpoints .entry)) n user (firstTicks c count) (now (captured .entry))) ⌝ }
 {
     let commands = c.commands;
     if commands.is_due() {
@@ -144,7 +151,7 @@ fn skip(progress: Progress, count: u64) -> Progress
 }
 
 // Before the first of the ticks after that.
-fn advance(begun: Begun) -> Progress
+fn begin(begun: Begun) -> Progress
     ensures { λ r. ⌜ (r .status ≡ begun .channel .status) × (r .sequencer ≡ begun .channel .sequencer) × (r .receiving ≡ begun .channel .commands .receiving) × (r .frames ≡ begun .frames) ⌝ }
 {
     let c = begun.channel;
@@ -188,14 +195,14 @@ pub fn ticks(
 ) -> Advanced
     ensures { λ r. ⌜ (r .channel ≡ ticksOf c (now (setpoints .entry)) n user count) × (r .frames ≡ framesIn c (now (setpoints .entry)) n user count) × (now (captured .exit) ≡ framesAt c (now (setpoints .entry)) n user count (now (captured .entry))) ⌝ }
 {
-    let begun = begin(c, setpoints, n, user, count, captured);
+    let begun = command_tick(c, setpoints, n, user, count, captured);
     let first = begun.channel;
     let registers = first.registers;
     let id = registers.id;
     let at = registers::zero_based(user);
     let second = registers.second_active(user);
     let period = registers::period(registers.clock);
-    let mut progress = advance(begun);
+    let mut progress = begin(begun);
     let mut done = begun.ticks;
     while done < count {
         let sequencer = progress.sequencer;

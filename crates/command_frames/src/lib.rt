@@ -210,15 +210,13 @@ impl CommandFrames {
         ensures { λ r. ⌜ r ≡ received self wrong id «data» ⌝ }
     {
         let mut next = self;
-        let count = next.count;
-        if next.receiving {
-            if count < 6 {
-                let place = 2 * count as usize;
-                next.replies[place] = id_word(id, wrong);
-                next.replies[place + 1] = data;
-                next.count = count + 1;
-                return next;
-            }
+        if self.takes() {
+            let count = next.count;
+            let place = 2 * count as usize;
+            next.replies[place] = id_word(id, wrong);
+            next.replies[place + 1] = data;
+            next.count = count + 1;
+            return next;
         }
         next
     }

@@ -1,4 +1,5 @@
 pub mod RunRows
 pub mod Resumes
 pub mod Starred
+pub mod CommandRows
 pub mod Reached

@@ -12,7 +12,7 @@ use Rattle.sequencer.specs.declared.Kind.the-variants as kind
 use Rattle.sequencer.specs.Words.{stageAfter, indexAfter}
 use Rattle.sequencer.specs.Runs.{kindAt, Beat}
 use Rattle.channel.specs.OneChannel.{OneChannel}
-use Rattle.timing.specs.Ticking.{after, onTick, wordAt, period, between, frameOf, Keeps, NextFrame, Resumes}
+use Rattle.timing.specs.Ticking.{after, onTick, wordAt, period, between, frameOf, Keeps, NextSetpoint, Resumes}
 use Rattle.timing.specs.Timing.{triggeredBy, delay}
 use Rattle.timing.proofs.Bridge.{after-keeps, keeps-on, between-add}
 use Rattle.timing.proofs.Series.{same-period, same-frame, same-kind}
@@ -24,7 +24,7 @@ abbrev paused : OneChannel → OneChannel
 paused o = after (started o) 10
 
 module _ (o : OneChannel) (code : ℕ) (h : PauseOne o code) where
-  starts : NextFrame (started o) 10 0
+  starts : NextSetpoint (started o) 10 0
   starts = timing .start-by-command o 1 (h .armed) refl
 
   start-kept : Keeps o (started o)

@@ -7,10 +7,10 @@ use Rattle.frame.specs.Frames.{crcFor, encoded, read, crcRight}
 use Rattle.sequencer.proofs.Moves as moves
 use Rattle.readback.specs.Storing.{storedWord}
 use Rattle.channel.specs.OneChannel.{transition}
-use Rattle.timing.specs.Ticking.{NextFrame}
+use Rattle.timing.specs.Ticking.{NextSetpoint}
 use Rattle.timing.specs.Timing.{eventCall}
 use Rattle.timing.proofs.Timing.{timing}
-use Rattle.examples.specs.Starred.{FrameRows, FirstFrameOn, DelayRows, ResumeRows, WordRows, Starred}
+use Rattle.examples.specs.Starred.{FrameRows, FirstSetpointOn, DelayRows, ResumeRows, WordRows, Starred}
 use Rattle.examples.proofs.RunRows.{run-rows}
 use Rattle.examples.proofs.Resumes.{resume-25, resume-0}
 
@@ -27,9 +27,9 @@ frame-rows =
       start-bit-1 = refl;
     }
 
-first-frame : (d : ℕ) → FirstFrameOn d (d + 10)
+first-frame : (d : ℕ) → FirstSetpointOn d (d + 10)
 first-frame d o code armed on e =
-    subst (λ (x : ℕ). NextFrame (transition o (eventCall o code)) (x + 10) 0) e (timing .start-by-event o code armed on)
+    subst (λ (x : ℕ). NextSetpoint (transition o (eventCall o code)) (x + 10) 0) e (timing .start-by-event o code armed on)
 
 delay-rows : DelayRows
 delay-rows = record { delay-0 = first-frame 0; delay-most = first-frame 0xffffff }

@@ -1,3 +1,4 @@
 pub mod RunRows
 pub mod Starred
 pub mod Reached
+pub mod CommandRows

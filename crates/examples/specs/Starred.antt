@@ -13,7 +13,7 @@ use Rattle.sequencer.specs.Words.{kindOf}
 use Rattle.readback.specs.Storing.{storedWord}
 use Rattle.channel_core.specs.Answers.{Answer}
 use Rattle.channel.specs.OneChannel.{OneChannel, transition}
-use Rattle.timing.specs.Ticking.{after, onTick, wordAt, between, frameOf, NextFrame}
+use Rattle.timing.specs.Ticking.{after, onTick, wordAt, between, frameOf, NextSetpoint}
 use Rattle.timing.specs.Timing.{command, eventCall, triggeredBy, delay, OnlyResumes}
 
 -- ---- Frames
@@ -37,15 +37,15 @@ pub record FrameRows : Type 0 where
 -- ---- Start delays
 
 -- any armed channel, with this start delay for the current user, started by its event: no setpoint before this tick, and the first on it
-abbrev pub FirstFrameOn : (delay tick : ℕ) → Type 0
-FirstFrameOn d tick =
+abbrev pub FirstSetpointOn : (delay tick : ℕ) → Type 0
+FirstSetpointOn d tick =
     (o : OneChannel) (code : ℕ) → o .channel .sequencer .armed ≡ true → triggeredBy o startEvent code ≡ true → delay o 0 ≡ d
-    → NextFrame (transition o (eventCall o code)) tick 0
+    → NextSetpoint (transition o (eventCall o code)) tick 0
 
 pub record DelayRows : Type 0 where
   -- "Delay 0: first frame on tick 10. Delay FFFFFFh: tick 16,777,225."
-  pub delay-0 : FirstFrameOn 0 10
-  pub delay-most : FirstFrameOn 0xffffff 16777225
+  pub delay-0 : FirstSetpointOn 0 10
+  pub delay-most : FirstSetpointOn 0xffffff 16777225
 
 -- ---- Resume delays
 

@@ -1,5 +1,5 @@
 -- Command frames and setpoints keep apart through what a channel does. Assumes nothing.
-use Prim.Native.Nat.{ℕ, _+_, _≤_}
+use Prim.Native.Nat.{ℕ, _≤_}
 use mathlib.Core.Path.{_≡_, refl, sym, _∙_, ap, subst}
 use mathlib.Core.Bool.{Bool, true, false, cond, not, _&&_}
 use mathlib.Core.List.{List}
@@ -10,7 +10,7 @@ use Rattle.frame.specs.Frames.{Reading, read, crcRight}
 use Rattle.frame.specs.Frames as frame
 use Rattle.status.specs.Bits.{bitAt}
 use Rattle.status.specs.Latching.{run}
-use Rattle.registers.specs.Map.{periodOf, stored}
+use Rattle.registers.specs.Map.{periodOf}
 use Rattle.sequencer.specs.declared.LastSend.{LastSend}
 use Rattle.sequencer.specs.declared.Stage.{Stage}
 use Rattle.sequencer.specs.declared.Stage.the-variants as stage
@@ -22,21 +22,20 @@ use Rattle.sequencer.specs.Playing as seq
 use Rattle.readback.specs.declared.Disposition.{Disposition}
 use Rattle.readback.specs.declared.Disposition.the-variants as disposition
 use Rattle.command_frames.specs.declared.CommandFrames.{CommandFrames}
-use Rattle.command_frames.specs.declared.Waiting.{Waiting}
 use Rattle.command_frames.specs.declared.Waiting.the-variants as waiting
 use Rattle.command_frames.specs.Commanding.{isDue, requested, sent, takes, received}
 use Rattle.command_frames.specs.Commanding as cmd
 use Rattle.command_frames.proofs.Laws.{ticked-due}
 use Rattle.channel_core.specs.declared.Channel.{Channel}
-use Rattle.channel_core.specs.State.{opened, reset, withSequencer, withRegisters, withCommands, conditionLatched}
+use Rattle.channel_core.specs.State.{opened, reset, withSequencer, conditionLatched}
 use Rattle.channel_core.specs.Behaviour.{started, groupEnded, endedIf, startedIf, resumedIf, resumedOn, eventOf, commanded, userChanged, dueOf, playedOf, isSetpoint, tickOf}
-use Rattle.channel_replies.specs.Replying.{dispositionNow, receivedChannel, commandReply, replyAs, replyOf}
-use Rattle.channel_registers.specs.Calls.{functionActive, registerEffect}
+use Rattle.channel_replies.specs.Replying.{dispositionNow, receivedChannel, replyAs, replyOf}
+use Rattle.channel_registers.specs.Calls.{cannotSend, registerEffect}
 use Rattle.channel.specs.Calls.{armedOf, disarmedOf}
 use Rattle.channel.proofs.Cases.{clash, either, by-test}
 use Rattle.histories.specs.Windows.{Window}
 use Rattle.histories.specs.Ranges.{ApartAt, Apart, Quiet}
-use Rattle.histories.proofs.Ticks.{sendWindow, windowOf, windowSent, plays-ticked}
+use Rattle.histories.proofs.Ticks.{windowOf, windowSent, plays-ticked}
 
 abbrev pub ApartIn : Channel → Type 0
 ApartIn c = Apart (c .commands) (c .sequencer)
@@ -48,7 +47,7 @@ module _ (s : Sequencer) (due n p : ℕ) where
   unfolding advancing
   starting-nothing h = rw (lt-leb (s .left) 1 (omega arith))
 
-  ticked-nothing : ApartAt (s .stage) (s .left) → ticked s due n p .transmission ≡ transmission.Nothing
+  pub ticked-nothing : ApartAt (s .stage) (s .left) → ticked s due n p .transmission ≡ transmission.Nothing
   unfolding ticked
   ticked-nothing = go (s .stage)
     where
@@ -65,6 +64,14 @@ pub apart-nothing : (c : Channel) (s : List ℕ) (n user : ℕ) → ApartIn c �
 apart-nothing c s n user p e = ticked-nothing (c .sequencer) (dueOf c s n user) n (periodOf (c .registers .clock)) (p .due e)
 
 -- ---- What keeps them apart
+
+pub idle-apart : (g : Stage) (left : ℕ) → isIdle g ≡ true → ApartAt g left
+idle-apart stage.Idle left e = tt
+idle-apart stage.Starting left e = clash e
+idle-apart stage.Running left e = clash e
+idle-apart (stage.Paused k) left e = clash e
+idle-apart stage.Resuming left e = clash e
+idle-apart stage.Ended left e = clash e
 
 -- idle, with nothing sent, whatever waits
 apart-idle : (f : CommandFrames) (s : Sequencer) → s .stage ≡ stage.Idle → s .last ≡ nothingSent → Apart f s
@@ -133,20 +140,12 @@ module _ (f : CommandFrames) (s : Sequencer) (p : Apart f s) where
       idle true false e n = clash (sym n)
       idle false i e n = clash (sym n)
 
-      idle-apart : (g : Stage) → isIdle g ≡ true → ApartAt g (s .left)
-      idle-apart stage.Idle e = tt
-      idle-apart stage.Starting e = clash e
-      idle-apart stage.Running e = clash e
-      idle-apart (stage.Paused k) e = clash e
-      idle-apart stage.Resuming e = clash e
-      idle-apart stage.Ended e = clash e
-
       go : (a b : Bool) → (a && not (s .armed && isIdle (s .stage))) ≡ false
           → Apart (cmd.withWaiting f (cond a waiting.NextTick (cond b waiting.GroupEnd (f .waiting)))) s
       go true b n =
           let i = idle (s .armed) (isIdle (s .stage)) refl n in
           let unsent = ap (λ (x : LastSend). x .sent) (q i) in
-          record { due = λ d. idle-apart (s .stage) i; due-unsent = λ d. unsent; receiving-unsent = p .receiving-unsent }
+          record { due = λ d. idle-apart (s .stage) (s .left) i; due-unsent = λ d. unsent; receiving-unsent = p .receiving-unsent }
       go false true n = record { due = λ d. clash d; due-unsent = λ d. clash d; receiving-unsent = p .receiving-unsent }
       go false false n = p
 
@@ -206,6 +205,13 @@ module _ (c : Channel) (p : ApartIn c) where
   unfolding resumedIf
   channel-resumed-if on pause delay = either ApartIn on (apart-resumed (c .commands) (c .sequencer) p pause delay) p
 
+-- with a Group End, whatever came before
+pub apart-ended : (c : Channel) (value : ℕ) → bitAt value 2 ≡ true → ApartIn (commanded c value)
+unfolding commanded endedIf groupEnded seq.groupEnded seq.idled
+apart-ended c value on =
+    channel-resumed-if _
+    (channel-started-if _ (rw on (apart-idle (cmd.groupEnded (c .commands)) (seq.groupEnded (c .sequencer)) refl refl)) _ _) _ _ _
+
 module _ (c : Channel) (p : ApartIn c) where
   pub apart-event : (user code : ℕ) → ApartIn (eventOf c user code)
   unfolding eventOf resumedOn
@@ -254,7 +260,7 @@ module _ (c : Channel) (p : ApartIn c) where
   reset-apart = apart-none cmd.opened seq.opened refl refl
 
   -- E0, E2 and FC; FC asks for the next tick only where it is not refused 10
-  stored-apart : Quiet (c .sequencer) → (offset value : ℕ) → functionActive c offset value ≡ false
+  stored-apart : Quiet (c .sequencer) → (offset value : ℕ) → cannotSend c offset value ≡ false
       → Apart (cmd.stored (c .commands) offset value) (c .sequencer)
   unfolding cmd.stored
   stored-apart q offset value a =
@@ -263,7 +269,7 @@ module _ (c : Channel) (p : ApartIn c) where
       (either P (eqb offset 0xe2) (record { due = p .due; due-unsent = p .due-unsent; receiving-unsent = p .receiving-unsent })
       (by-test P (eqb offset 0xfc) (λ e. apart-requested (c .commands) (c .sequencer) p q value (rw e at a)) (λ e. p)))
 
-  pub apart-register : Quiet (c .sequencer) → (offset value : ℕ) → functionActive c offset value ≡ false → ApartIn (registerEffect c offset value)
+  pub apart-register : Quiet (c .sequencer) → (offset value : ℕ) → cannotSend c offset value ≡ false → ApartIn (registerEffect c offset value)
   unfolding registerEffect
   apart-register q offset value a =
       either ApartIn (eqb offset 0x00) p

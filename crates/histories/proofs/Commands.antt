@@ -1,15 +1,13 @@
 -- After any list of calls a channel holds what calls and answers tell of command frames; none leaves with a setpoint. Assumes nothing.
 use Prim.Native.Nat.{ℕ, _*_, _≤_, _<_}
 use mathlib.Core.Path.{_≡_, refl, sym, _∙_, ap}
-use mathlib.Core.Bool.{Bool, true, false, cond, not, _&&_}
+use mathlib.Core.Bool.{Bool, true, false, cond, not}
 use mathlib.Core.List.{List, [], _∷_}
 use native.Mathlib.Omega.{arith}
 use lib.Dec.{eqb, leb}
 use borrow.Author.Tests.{eq-eqb, ne-eqb, le-leb, leb-false}
 use Rattle.frame.specs.Frames.{Reading, read, crcRight}
 use Rattle.frame.specs.Frames as frame
-use Rattle.register_map.specs.AccessRule.{channelAccess}
-use Rattle.register_map.specs.AccessRefusals.{readRefusal}
 use Rattle.status.specs.Bits.{bitAt}
 use Rattle.registers.specs.Map.{triggersOf, groupEndEvent, stored}
 use Rattle.sequencer.specs.declared.Transmission.{Transmission}
@@ -20,7 +18,7 @@ use Rattle.command_frames.specs.declared.CommandFrames.{CommandFrames}
 use Rattle.command_frames.specs.Commanding.{isDue, sent, takes, received, commandFrame}
 use Rattle.command_frames.specs.Commanding as cmd
 use Rattle.channel_core.specs.declared.Channel.{Channel}
-use Rattle.channel_core.specs.Answers.{Answer, isFrame, refused}
+use Rattle.channel_core.specs.Answers.{isFrame, isRefusal, refused}
 use Rattle.channel_core.specs.Answers as ans
 use Rattle.channel_core.specs.State as state
 use Rattle.channel_core.specs.State.{reset, withRegisters, withCommands}
@@ -29,12 +27,13 @@ use Rattle.channel_core.proofs.Laws.{line-none, line-command}
 use Rattle.channel_replies.specs.Replying.{dispositionNow, receiptAnswer, receivedChannel, commandReply, replyAnswerAs, replyAs, replyAnswer, replyOf}
 use Rattle.channel_registers.specs.Calls.{registerEffect, readValue}
 use Rattle.channel.specs.Calls.{armedOf, disarmedOf}
-use Rattle.channel.specs.OneChannel.{ChannelCall, OneChannel, oneChannel, refusalOf, effect, answer, transition, response, transitions, userChange, readRegister, tick}
+use Rattle.channel.specs.OneChannel.{ChannelCall, OneChannel, oneChannel, refusalOf, effect, answer, transition, response, transitions, readRegister, tick}
 use Rattle.channel.specs.OneChannel as call
 use Rattle.channel.proofs.Cases.{clash, either}
-use Rattle.histories.specs.History.{isKept, Entry, entry, history, asks, repliedTo, tickedBy, writtenBy, commandsAfter, commandsSince, Told, told}
+use Rattle.histories.specs.History.{isKept, entry, history, asks, repliedTo, tickedBy, writtenBy, commandsAfter, commandsSince, Told, told}
 use Rattle.histories.specs.Commands.{commandsOver, CommandsTold, CommandsRead, NeverTogether, CommandTicks}
 use Rattle.histories.proofs.Cases.{by-offset}
+use Rattle.histories.proofs.Accepted.{accepted-answer}
 use Rattle.histories.proofs.Refusing.{accepted-response}
 use Rattle.histories.proofs.Depths.{depths-kept}
 use Rattle.histories.proofs.Leaves.{leaves-event, leaves-command, leaves-read, leaves-main}
@@ -142,13 +141,13 @@ effect-commands o (call.readMain offset) p = leaves-main (o .channel) offset .co
 pub commands-step : (o : OneChannel) (k : ChannelCall) → ApartIn (o .channel)
     → transition o k .channel .commands ≡ commandsAfter (o .channel .commands) (entry o k)
 unfolding transition response commandsAfter
-commands-step o k p = go (eqb (refusalOf o k) 0)
+commands-step o k p = go (eqb (refusalOf o k) 0) refl
   where
-    go : (b : Bool)
-        → cond b (effect o k) o .channel .commands
-        ≡ cond (cond b false true) (o .channel .commands) (asks o k .commands (cond b (answer o k) (refused (refusalOf o k))) (o .channel .commands))
-    go true = effect-commands o k p
-    go false = refl
+    go : (b : Bool) → eqb (refusalOf o k) 0 ≡ b
+        → let a = cond b (answer o k) (refused (refusalOf o k)) in
+        cond b (effect o k) o .channel .commands ≡ cond (isRefusal a) (o .channel .commands) (asks o k .commands a (o .channel .commands))
+    go true e = rw (accepted-answer o k e) (effect-commands o k p)
+    go false e = refl
 
 -- ---- Lists of calls
 

@@ -1,4 +1,5 @@
 pub mod Cases
+pub mod Accepted
 pub mod Refusing
 pub mod Depths
 pub mod Lengths

@@ -6,7 +6,7 @@ use mathlib.Core.List.{List, [], _∷_}
 use native.Mathlib.Omega.{arith}
 use lib.ListN.{length}
 use lib.Dec.{eqb, leb, ltb}
-use borrow.Author.Tests.{eqb-true, eq-eqb, ltb-false}
+use borrow.Author.Tests.{eqb-true, ltb-false}
 use Rattle.register_map.specs.AccessRule.{channelAccess}
 use Rattle.register_map.specs.AccessRefusals.{writeRefusal}
 use Rattle.status.specs.Bits.{bitAt}
@@ -17,13 +17,14 @@ use Rattle.channel_core.specs.declared.Channel.{Channel}
 use Rattle.channel_core.specs.State as state
 use Rattle.channel_core.specs.Answers.{Answer}
 use Rattle.channel_core.specs.Behaviour.{userChanged}
-use Rattle.channel_registers.specs.Calls.{functionActive, registerRefusal, registerEffect, readEffect}
+use Rattle.channel_registers.specs.Calls.{cannotSend, registerRefusal, registerEffect, readEffect}
 use Rattle.channel.specs.Calls.{outside, armedOf, mainTaken}
-use Rattle.channel.specs.OneChannel.{ChannelCall, OneChannel, oneChannel, then, lengthRefusal, refusalOf, effect, transition, transitions, mainRead, withUser, withChannel, withReadbacks, userRefusal}
+use Rattle.channel.specs.OneChannel.{ChannelCall, OneChannel, oneChannel, lengthRefusal, refusalOf, effect, transition, transitions, mainRead, withUser, withChannel, withReadbacks, userRefusal}
 use Rattle.channel.specs.OneChannel as call
-use Rattle.channel.proofs.Cases.{clash, passed, either}
+use Rattle.channel.proofs.Cases.{passed, either}
 use Rattle.channel.proofs.Ranges.{inside}
 use Rattle.histories.specs.Ranges.{Quiet, SequencerInRange, ChannelInRange, Apart, InRange, CallKeepsRange, StaysInRange}
+use Rattle.histories.proofs.Accepted.{then-passed}
 use Rattle.histories.proofs.Calls.{steps, read-sequencer, main-sequencer}
 use Rattle.histories.proofs.Leaves.{leaves-read, leaves-main}
 use Rattle.histories.proofs.Apart.{ApartIn, apart-opened, apart-event, apart-user, apart-arm, apart-disarm, apart-tick, apart-reply, apart-register}
@@ -41,21 +42,14 @@ pub record Stays (o x : OneChannel) : Type 0 where
 
 -- ---- Refusals that were passed
 
-then-passed : (first second : ℕ) → then first second ≡ 0 → (first ≡ 0) × (second ≡ 0)
-then-passed first second = go (eqb first 0) refl
-  where
-    go : (b : Bool) → eqb first 0 ≡ b → cond b second first ≡ 0 → (first ≡ 0) × (second ≡ 0)
-    go true e f = (eqb-true first 0 e, f)
-    go false e f = clash (sym e ∙ eq-eqb first 0 f)
-
 -- a write that is not refused: FC with D0 found the channel armed and idle, and a clock code is 3 at most
 register-passed : (c : Channel) (offset value : ℕ) → registerRefusal c offset value ≡ 0
-    → (functionActive c offset value ≡ false) × (eqb offset 0x0a ≡ true → value ≤ 3)
+    → (cannotSend c offset value ≡ false) × (eqb offset 0x0a ≡ true → value ≤ 3)
 unfolding registerRefusal
 register-passed c offset value e =
     let clock : ℕ = cond (eqb offset 0x0a) (cond (ltb 3 value) 5 0) 0 in
-    let a = then-passed (writeRefusal (channelAccess offset)) (cond (functionActive c offset value) 10 clock) e .1 in
-    let b = passed (functionActive c offset value) 10 clock refl a in
+    let a = then-passed (writeRefusal (channelAccess offset)) (cond (cannotSend c offset value) 10 clock) e .1 in
+    let b = passed (cannotSend c offset value) 10 clock refl a in
     (b .0, λ at. ltb-false 3 value (passed (ltb 3 value) 5 0 refl (ap (λ (x : Bool). cond x (cond (ltb 3 value) 5 0) 0) (sym at) ∙ b .1) .0))
 
 -- ---- The channel

@@ -2,10 +2,11 @@
 use mathlib.Core.Path.{_≡_, refl, ap}
 use mathlib.Core.Bool.{Bool, true, false, cond}
 use lib.Dec.{eqb}
-use Rattle.channel_core.specs.Answers.{Answer, refused}
+use Rattle.channel_core.specs.Answers.{Answer, refused, isRefusal}
 use Rattle.channel.specs.OneChannel.{ChannelCall, OneChannel, refusalOf, effect, answer, transition, response}
 use Rattle.histories.specs.History.{entry, asks, endsGroup, resets, stops}
 use Rattle.histories.specs.Refusing.{RefusedChangesNothing}
+use Rattle.histories.proofs.Accepted.{accepted-answer}
 
 pub refused-nothing : RefusedChangesNothing
 unfolding transition response
@@ -21,10 +22,10 @@ unfolding transition response
 by-refusal P o k h g = go (eqb (refusalOf o k) 0) refl
   where
     go : (b : Bool) → eqb (refusalOf o k) 0 ≡ b
-        → P (cond b (effect o k) o) (cond b (answer o k) (refused (refusalOf o k)))
-        (cond (cond b false true) false (asks o k .groupEnd)) (cond (cond b false true) false (asks o k .reset))
-        (cond (cond b false true) false (asks o k .idle))
-    go true e = h e
+        → let a = cond b (answer o k) (refused (refusalOf o k)) in
+        P (cond b (effect o k) o) a (cond (isRefusal a) false (asks o k .groupEnd)) (cond (isRefusal a) false (asks o k .reset))
+        (cond (isRefusal a) false (asks o k .idle))
+    go true e = rw (accepted-answer o k e) (h e)
     go false e = g
 
 pub accepted-transition : (o : OneChannel) (k : ChannelCall) → eqb (refusalOf o k) 0 ≡ true → transition o k ≡ effect o k

@@ -1,7 +1,7 @@
 -- A well-framed reply is kept, lost or unsolicited exactly as document 01 and card 1 say, over any list of calls. Assumes nothing.
 use Prim.Native.Nat.{ℕ, _+_, _*_}
 use mathlib.Core.Path.{_≡_, refl, sym, _∙_, ap, subst}
-use mathlib.Core.Bool.{Bool, true, false, cond, not, _&&_}
+use mathlib.Core.Bool.{Bool, true, false, cond, not, _&&_, _||_}
 use lib.ListN.{length}
 use lib.Dec.{eqb, ltb}
 use borrow.Author.Tests.{eq-eqb}
@@ -13,7 +13,7 @@ use Rattle.readback.specs.Storing.{isDue, dispositionOf, capacity, storedWord}
 use Rattle.command_frames.specs.declared.CommandFrames.{CommandFrames}
 use Rattle.command_frames.specs.Commanding.{takes, received}
 use Rattle.channel_core.specs.Answers.{kept, lost, unsolicited}
-use Rattle.channel_replies.specs.Replying.{dispositionNow, receiptAnswer, receivedChannel, receivedWords, commandReply, replyAnswer, replyOf, replyWords}
+use Rattle.channel_replies.specs.Replying.{dispositionNow, receiptAnswer, receivedChannel, receivedWords, crcStatus, commandReply, replyAnswer, replyOf, replyWords}
 use Rattle.channel.specs.OneChannel.{ChannelCall, OneChannel, oneChannel, refusalOf, effect, answer, transition, response, transitions, reply}
 use Rattle.histories.specs.History.{toldOf}
 use Rattle.histories.specs.Windows.{Window, closed, windowSince}
@@ -112,6 +112,23 @@ module _
         go false true false e = refl
         go false false space e = refl
 
+    status : transition o call .channel .status
+        ≡ cond (takes f || dueByWindow w) (crcStatus (o .channel .status) (crcRight id word aux crc)) (o .channel .status)
+    unfolding effect replyOf call
+    status =
+        ap (λ (x : OneChannel). x .channel .status) (accepted-transition o call not-refused)
+        ∙ rw (framed, taken, disposed) (go (takes f) (dueByWindow w) (hasSpace (o .m) g))
+      where
+        go : (theirs due space : Bool)
+            → cond theirs (commandReply (o .channel) (crcRight id word aux crc) id word)
+            (receivedChannel (cond due (cond space disposition.Kept disposition.Lost) disposition.Unsolicited) (o .channel) (o .m) (crcRight id word aux crc))
+            .status
+            ≡ cond (theirs || due) (crcStatus (o .channel .status) (crcRight id word aux crc)) (o .channel .status)
+        go true due space = refl
+        go false true true = refl
+        go false true false = refl
+        go false false space = refl
+
     commands : transition o call .channel .commands ≡ received f (not (crcRight id word aux crc)) id word
     unfolding effect replyOf call
     commands =
@@ -130,7 +147,7 @@ module _
 
     replied : Replied o f w g (o .m) number id word aux crc
     unfolding call
-    replied = record { answers = answers; count = count; words = words; commands = commands }
+    replied = record { answers = answers; count = count; words = words; status = status; commands = commands }
 
 pub replies-by-window : RepliesByWindow
 replies-by-window n m setpoints readbacks ks number id word aux crc framed =

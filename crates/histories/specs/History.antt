@@ -1,6 +1,7 @@
 -- Document 01, 'A channel's life', over what calls ANSWERED. A history: what a channel by itself was called with, in which state, and what it
 -- answered. Laws over histories are stated with these.
--- Document 02, card 1: which of the frames are command frames, and which replies go to E4–FA, told by calls and answers.
+-- Document 02, card 1: which of the frames are command frames, and which replies go to E4–FA, told by calls and answers. Of the state before a call
+-- only the code of the Group End event, the current user, and what a stored word says of the last send are looked at.
 use Prim.Native.Nat.{ℕ, _+_}
 use mathlib.Core.Bool.{Bool, true, false, cond, not, _&&_, _||_}
 use mathlib.Core.List.{List, [], _∷_}
@@ -13,9 +14,9 @@ use Rattle.readback.specs.Storing.{storedWord}
 use Rattle.command_frames.specs.declared.CommandFrames.{CommandFrames}
 use Rattle.command_frames.specs.Commanding.{isDue, takes, received}
 use Rattle.command_frames.specs.Commanding as cmd
-use Rattle.channel_core.specs.Answers.{Answer, isFrame, isReceived}
+use Rattle.channel_core.specs.Answers.{Answer, isRefusal, isFrame, isReceived}
 use Rattle.channel_core.specs.Answers as ans
-use Rattle.channel.specs.OneChannel.{ChannelCall, OneChannel, refusalOf, transition, response}
+use Rattle.channel.specs.OneChannel.{ChannelCall, OneChannel, transition, response}
 use Rattle.channel.specs.OneChannel as call
 
 -- one call: the state before it, the call, and what it answered
@@ -49,23 +50,23 @@ isKept (ans.part s) = false
 isKept (ans.other r) = false
 
 -- what a call makes of command frames, by what it answered: the frame that waits, its registers, the replies to the last one
-abbrev pub Commanding : Type 0
-Commanding = Answer → CommandFrames → CommandFrames
+abbrev pub CommandChange : Type 0
+CommandChange = Answer → CommandFrames → CommandFrames
 
-abbrev pub leavesCommands : Commanding
+abbrev pub leavesCommands : CommandChange
 leavesCommands a f = f
 
 -- a reply that was answered kept goes to E4–FA, where a command frame takes it
-abbrev pub repliedTo : Reading → Commanding
+abbrev pub repliedTo : Reading → CommandChange
 repliedTo (frame.refused k) a f = f
 repliedTo (frame.fields id word aux crc) a f = cond (isKept a) (received f (not (crcRight id word aux crc)) id word) f
 
 -- a tick that answered a frame: the command frame if one was due, else a setpoint's
-abbrev pub tickedBy : Commanding
+abbrev pub tickedBy : CommandChange
 tickedBy a f = cond (isFrame a) (cmd.ticked f (not (isDue (f .waiting)))) f
 
 -- a write: Reset with D0, Commands with D2, else E0, E2 and FC keep it
-abbrev pub writtenBy : ℕ → ℕ → Commanding
+abbrev pub writtenBy : ℕ → ℕ → CommandChange
 writtenBy offset value a f =
     cond (eqb offset 0x06 && bitAt value 0) cmd.opened
     (cond (eqb offset 0x08 && bitAt value 2) (cmd.groupEnded f) (cmd.stored f offset value))
@@ -80,24 +81,25 @@ pub record Asks : Type 0 where
   pub idle : Bool
   -- the word that a reply brings
   pub word : List ℕ
-  pub commands : Commanding
+  -- what it makes of command frames
+  pub commands : CommandChange
 
 -- none of these but what it makes of command frames: the call ends no group, resets and idles nothing and brings no word
-abbrev pub commanding : Commanding → Asks
-commanding f = record { groupEnd = false; reset = false; idle = false; word = []; commands = f }
+abbrev pub changing : CommandChange → Asks
+changing f = record { groupEnd = false; reset = false; idle = false; word = []; commands = f }
 
 -- none of these, whatever else it does
 abbrev pub asksNothing : Asks
-asksNothing = commanding leavesCommands
+asksNothing = changing leavesCommands
 
 -- one of these alone
 abbrev pub groupEndIf : Bool → Asks
 groupEndIf on = record { groupEnd = on; reset = false; idle = false; word = []; commands = λ a f. cond on (cmd.groupEnded f) f }
 
-abbrev pub idleIf : Bool → Commanding → Asks
+abbrev pub idleIf : Bool → CommandChange → Asks
 idleIf on f = record { groupEnd = false; reset = false; idle = on; word = []; commands = f }
 
-abbrev pub bringing : List ℕ → Commanding → Asks
+abbrev pub bringing : List ℕ → CommandChange → Asks
 bringing word f = record { groupEnd = false; reset = false; idle = false; word = word; commands = f }
 
 abbrev pub asks : OneChannel → ChannelCall → Asks
@@ -115,7 +117,7 @@ asks o call.arm = asksNothing
 asks o call.disarm = idleIf true (λ a f. cmd.dropped f)
 asks o (call.reply lent f) = bringing (replyWord o (read f)) (repliedTo (read f))
 asks o (call.query which one two) = asksNothing
-asks o (call.tick lent) = commanding tickedBy
+asks o (call.tick lent) = changing tickedBy
 asks o (call.event lent code) = groupEndIf (triggersOf (o .channel .registers) groupEndEvent code)
 asks o (call.changeUser user) = idleIf (not (eqb user (o .user))) leavesCommands
 asks o (call.writeMain lent offset value) = asksNothing
@@ -124,7 +126,7 @@ asks o (call.readMain offset) = asksNothing
 -- ---- What an entry shows
 
 abbrev pub isRefused : Entry → Bool
-isRefused e = cond (eqb (refusalOf (e .before) (e .call)) 0) false true
+isRefused e = isRefusal (e .answer)
 
 -- a Group End that took place
 abbrev pub endsGroup : Entry → Bool
@@ -162,8 +164,8 @@ abbrev pub toldOf : OneChannel → List ChannelCall → List Told
 toldOf o ks = told cmd.opened (history o ks)
 
 -- a setpoint send: a tick that answered a frame, where no command frame was due
-abbrev pub sends : Told → Bool
-sends t = isFrame (t .entry .answer) && not (isDue (t .commands .waiting))
+abbrev pub sendsSetpoint : Told → Bool
+sendsSetpoint t = isFrame (t .entry .answer) && not (isDue (t .commands .waiting))
 
 -- a reply that was answered kept or lost, and did not go to E4–FA
 abbrev pub receives : Told → Bool
@@ -174,4 +176,4 @@ receives t = isReceived (t .entry .answer) && not (takes (t .commands))
 -- how many setpoints were sent since the last Group End or reset, and `k` more before the history if it has none
 unfoldable pub sendsSince : ℕ → List Told → ℕ
 sendsSince k [] = k
-sendsSince k (t ∷ ts) = sendsSince (cond (endsGroup (t .entry) || resets (t .entry)) 0 (cond (sends t) (k + 1) k)) ts
+sendsSince k (t ∷ ts) = sendsSince (cond (endsGroup (t .entry) || resets (t .entry)) 0 (cond (sendsSetpoint t) (k + 1) k)) ts

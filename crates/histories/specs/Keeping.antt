@@ -7,7 +7,7 @@ use mathlib.Core.List.{List, [], _∷_, _++_}
 use lib.ListN.{length}
 use Rattle.command_frames.specs.Commanding.{takes}
 use Rattle.channel_core.specs.Answers.{part, partLength}
-use Rattle.channel.specs.OneChannel.{ChannelCall, OneChannel, oneChannel, response, transitions}
+use Rattle.channel.specs.OneChannel.{ChannelCall, oneChannel, response, transitions}
 use Rattle.channel.specs.OneChannel as call
 use Rattle.histories.specs.History.{isKept, Told, toldOf, asks, endsGroup, resets}
 

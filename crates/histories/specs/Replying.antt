@@ -4,7 +4,7 @@
 -- 02, card 1, what is told of command frames (`commandsSince`).
 use Prim.Native.Nat.{ℕ, _+_, _*_, _≤_}
 use mathlib.Core.Path.{_≡_}
-use mathlib.Core.Bool.{Bool, cond, not, _&&_}
+use mathlib.Core.Bool.{Bool, cond, not, _&&_, _||_}
 use mathlib.Core.List.{List}
 use lib.ListN.{length, set}
 use lib.Dec.{ltb}
@@ -15,6 +15,7 @@ use Rattle.readback.specs.Storing.{capacity, placeOf, storedWord}
 use Rattle.command_frames.specs.declared.CommandFrames.{CommandFrames}
 use Rattle.command_frames.specs.Commanding.{takes, received}
 use Rattle.channel_core.specs.Answers.{kept, lost, unsolicited}
+use Rattle.channel_replies.specs.Replying.{crcStatus}
 use Rattle.channel.specs.OneChannel.{ChannelCall, OneChannel, oneChannel, transition, response, transitions, reply}
 use Rattle.histories.specs.History.{toldOf}
 use Rattle.histories.specs.Commands.{commandsOver}
@@ -51,7 +52,7 @@ storedAfter o g word =
 abbrev pub storesReply : CommandFrames → Window → ℕ → Kept → Bool
 storesReply f w m g = not (takes f) && (dueByWindow w && hasSpace m g)
 
--- a reply, lent what fits: exactly where it is kept, lost or unsolicited, what is stored, and what goes to E4–FA. `f` is what is told of command frames.
+-- a reply, lent what fits: exactly where it is kept, lost or unsolicited, what is stored, what is latched, and what goes to E4–FA. `f` is what is told of command frames.
 pub record Replied (o : OneChannel) (f : CommandFrames) (w : Window) (g : Kept) (m number id word aux crc : ℕ) : Type 0 where
   pub answers : response o (reply (m * 8) number)
       ≡ cond (takes f) kept (cond (dueByWindow w) (cond (hasSpace m g) kept lost) unsolicited)
@@ -61,6 +62,9 @@ pub record Replied (o : OneChannel) (f : CommandFrames) (w : Window) (g : Kept) 
       ≡ cond (storesReply f w m g)
       (storedAfter o g (storedWord (o .channel .sequencer .last) (o .user) (not (crcRight id word aux crc)) id word))
       (o .readbacks)
+  -- "A wrong CRC, kept or lost, latches CRC."
+  pub status : transition o (reply (m * 8) number) .channel .status
+      ≡ cond (takes f || dueByWindow w) (crcStatus (o .channel .status) (crcRight id word aux crc)) (o .channel .status)
   pub commands : transition o (reply (m * 8) number) .channel .commands ≡ received f (not (crcRight id word aux crc)) id word
 
 -- from an opening, after any list of calls, a well-framed reply

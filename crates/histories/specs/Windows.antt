@@ -4,7 +4,7 @@
 use Prim.Native.Nat.{ℕ, _+_}
 use mathlib.Core.Bool.{Bool, true, false, cond, _||_}
 use mathlib.Core.List.{List, [], _∷_}
-use Rattle.histories.specs.History.{Entry, Told, endsGroup, resets, stops, sends, receives}
+use Rattle.histories.specs.History.{Entry, Told, endsGroup, resets, stops, sendsSetpoint, receives}
 
 -- it idles the channel, though its event or command may then start it again: a Group End, a reset ("its opening state"), or a call that idles without either
 abbrev pub idles : Entry → Bool
@@ -21,7 +21,7 @@ closed = record { sent = false; replies = 0 }
 abbrev pub windowAfter : Window → Told → Window
 windowAfter w t =
     cond (idles (t .entry)) closed
-    (cond (sends t) (record { sent = true; replies = 0 })
+    (cond (sendsSetpoint t) (record { sent = true; replies = 0 })
     (cond (receives t) (record { sent = w .sent; replies = w .replies + 1 }) w))
 
 unfoldable pub windowSince : Window → List Told → Window

@@ -1,13 +1,15 @@
--- The defaults of the total definitions are never used on the board: each channel is as it would be alone, and alone it stays in range.
--- Assumes nothing.
+-- The defaults of the total definitions are never used on the board, and no tick of a channel has two frames: each channel is as it would be alone, and
+-- alone it stays in range. Assumes nothing.
 use Prim.Native.Nat.{ℕ, _*_}
 use mathlib.Core.Path.{_≡_, sym, subst, _∙_}
 use native.Mathlib.Omega.{arith}
 use Rattle.histories.specs.Ranges.{InRange}
 use Rattle.histories.proofs.Ranges.{stays-in-range}
+use Rattle.histories.proofs.Apart.{apart-nothing}
 use Rattle.board_state.specs.Parts.{own}
-use Rattle.isolation.specs.Feeding.{fed}
-use Rattle.isolation.specs.Isolation.{DefaultsUnused}
+use Rattle.isolation.specs.Calls.{worldAfter, opening}
+use Rattle.isolation.specs.Feeding.{fed, view}
+use Rattle.isolation.specs.Isolation.{DefaultsUnused, OneFrameATick}
 use Rattle.isolation.proofs.Parts.{Number, own-length}
 use Rattle.isolation.proofs.Isolation.{isolation, open-fits}
 
@@ -24,3 +26,8 @@ defaults-unused n m s r e c low high xs a =
 
     reads : (k : ℕ) → k * 8 ≡ 4 * (k * 2)
     reads k = omega arith
+
+pub one-frame-a-tick : OneFrameATick
+one-frame-a-tick n m s r e c low high xs a due =
+    let o = view c (worldAfter (opening n m s r) xs) in
+    apart-nothing (o .channel) (o .setpoints) (o .n) (o .user) (defaults-unused n m s r e c low high xs a .apart) due

@@ -8,14 +8,10 @@ use Rattle.frame.specs.Frames.{Reading, read}
 use Rattle.frame.specs.Frames as frame
 use Rattle.register_map.specs.AccessRule.{channelAccess, mainAccess}
 use Rattle.register_map.specs.AccessRefusals.{readRefusal, writeRefusal}
-use Rattle.sequencer.specs.declared.Transmission.{Transmission}
-use Rattle.sequencer.specs.declared.Transmission.the-variants as transmission
 use Rattle.channel_core.specs.declared.Channel.{Channel}
 use Rattle.channel_core.specs.Answers.{Answer, isRefusal, unless}
 use Rattle.channel_core.specs.Answers as ans
-use Rattle.command_frames.specs.declared.CommandFrames.{CommandFrames}
-use Rattle.command_frames.specs.Commanding.{isDue}
-use Rattle.channel_core.specs.Behaviour.{tickLine, playedOf}
+use Rattle.channel_core.specs.Behaviour.{playedOf}
 use Rattle.channel_core.specs.Behaviour as core
 use Rattle.channel_replies.specs.Replying.{replyAnswerAs, replyAs, replyWordsAs}
 use Rattle.channel_replies.specs.Replying as replies
@@ -23,10 +19,11 @@ use Rattle.channel_registers.specs.Calls.{registerRefusal}
 use Rattle.channel_registers.specs.Calls as channel-registers
 use Rattle.channel.specs.Calls.{setpointRefusal}
 use Rattle.channel.specs.Calls as chn
-use Rattle.channel.specs.OneChannel.{OneChannel, Query, ChannelCall, withChannel, withSetpoints, withReadbacks, refusalOf, effect, answer, transition, response, transitions, responses, then, lengthRefusal, framingRefusal, mainAnswer}
+use Rattle.channel.specs.OneChannel.{OneChannel, Query, ChannelCall, withChannel, withSetpoints, withReadbacks, refusalOf, effect, answer, transition, response, transitions, responses, then, lengthRefusal, framingRefusal}
 use Rattle.channel.specs.OneChannel as to
 use Rattle.channel.proofs.Cases.{clash, either}
 use Rattle.board_state.specs.Checks.{sizeMismatch}
+use Rattle.histories.proofs.Accepted.{line-accepted, main-accepted}
 use Rattle.isolation.proofs.Refused.{reply-still, reply-words}
 
 -- the channel and its readbacks changed
@@ -34,15 +31,6 @@ abbrev pub withBoth : OneChannel → Channel → List ℕ → OneChannel
 withBoth o c s = withReadbacks (withChannel o c) s
 
 -- ---- Refused, it stands still
-
-frame-none : (id : ℕ) (f : CommandFrames) (t : Transmission) → isRefusal (tickLine id f t) ≡ false
-frame-none id f transmission.Nothing = either (λ (a : Answer). isRefusal a ≡ false) (isDue (f .waiting)) refl refl
-frame-none id f (transmission.Word word k) = refl
-
-main-none : (c : Channel) (o : ℕ) → isRefusal (mainAnswer c o) ≡ false
-main-none c o =
-    either (λ (a : Answer). isRefusal a ≡ false) (eqb o 0x28) refl
-    (either (λ (a : Answer). isRefusal a ≡ false) (eqb o 0x2a) refl refl)
 
 module _ (o : OneChannel) where
   -- no refusal but in `refusalOf`; a reply's stands in the answer too, and there it changes nothing
@@ -57,11 +45,11 @@ module _ (o : OneChannel) where
       ap₂ (withBoth o) (reply-still (o .channel) (o .m) f h) (reply-words (o .channel) (o .readbacks) (o .m) (o .user) f h)
   effect-still (to.query q k j) h = refl
   effect-still (to.tick lent) h =
-      clash (sym (frame-none (o .channel .registers .id) (o .channel .commands) (playedOf (o .channel) (o .setpoints) (o .n) (o .user) .transmission)) ∙ h)
+      clash (sym (line-accepted (o .channel .registers .id) (o .channel .commands) (playedOf (o .channel) (o .setpoints) (o .n) (o .user) .transmission)) ∙ h)
   effect-still (to.event lent x) h = clash h
   effect-still (to.changeUser u) h = clash h
   effect-still (to.writeMain lent x v) h = refl
-  effect-still (to.readMain x) h = clash (sym (main-none (o .channel) x) ∙ h)
+  effect-still (to.readMain x) h = clash (sym (main-accepted (o .channel) x) ∙ h)
 
   pub still : (k : ChannelCall) → isRefusal (response o k) ≡ true → transition o k ≡ o
   unfolding response transition

@@ -1,28 +1,26 @@
 -- A refused call changes no state and no lent word, on any board and lent anything. Assumes nothing.
 use Prim.Native.Nat.{ℕ}
 use mathlib.Core.Path.{_≡_, refl, sym, ap, _∙_}
-use mathlib.Core.Bool.{Bool, true, false, cond}
+use mathlib.Core.Bool.{Bool, true, false}
 use mathlib.Core.List.{List}
 use lib.ListN.{length}
 use Rattle.frame.specs.Frames.{Reading, read}
 use Rattle.frame.specs.Frames as frame
-use Rattle.readback.specs.declared.Disposition.{Disposition}
-use Rattle.readback.specs.declared.Disposition.the-variants as disposition
 use Rattle.address_map.specs.Addresses.{Named, named, main, channel, nothing}
 use Rattle.register_map.specs.AccessRule.{channelAccess, mainAccess}
 use Rattle.register_map.specs.AccessRefusals.{readRefusal, writeRefusal}
-use Rattle.command_frames.specs.Commanding.{takes}
 use Rattle.channel_core.specs.declared.Channel.{Channel}
-use Rattle.channel_core.specs.Answers.{Answer, isRefusal}
+use Rattle.channel_core.specs.Answers.{isRefusal}
 use Rattle.channel_core.specs.Answers as ans
-use Rattle.channel_replies.specs.Replying.{dispositionNow, receiptAnswer, replyAnswerAs, replyAs, replyWordsAs}
+use Rattle.channel_replies.specs.Replying.{replyAnswerAs, replyAs, replyWordsAs}
 use Rattle.channel_replies.specs.Replying as replies
 use Rattle.channel_registers.specs.Calls.{registerRefusal}
 use Rattle.channel_registers.specs.Calls as channel-registers
 use Rattle.channel.specs.Calls.{setpointRefusal}
 use Rattle.channel.specs.Calls as chn
 use Rattle.channel.specs.OneChannel.{userRefusal}
-use Rattle.channel.proofs.Cases.{clash, either, by-test}
+use Rattle.channel.proofs.Cases.{clash, by-test}
+use Rattle.histories.proofs.Accepted.{received-accepted}
 use Rattle.board_state.specs.declared.Board.{Board}
 use Rattle.board_state.specs.State.{channelAt, withChannelAt}
 use Rattle.board_state.specs.Main.{mainValue}
@@ -38,16 +36,6 @@ use Rattle.isolation.proofs.Parts.{own-same}
 use Rattle.isolation.proofs.Cases.{unless-refused, withChannelAt-own}
 
 -- ---- One channel
-
-disposition-none : (d : Disposition) → isRefusal (receiptAnswer d) ≡ false
-disposition-none disposition.Unsolicited = refl
-disposition-none disposition.Lost = refl
-disposition-none disposition.Kept = refl
-
--- nor is a well-framed reply refused
-received-none : (c : Channel) (m : ℕ) → isRefusal (cond (takes (c .commands)) ans.kept (receiptAnswer (dispositionNow c m))) ≡ false
-received-none c m =
-    either (λ (a : Answer). isRefusal a ≡ false) (takes (c .commands)) refl (disposition-none (dispositionNow c m))
 
 module _ (c : Channel) where
   written-still : (o v : ℕ) → isRefusal (channel-registers.writtenAnswer c o v) ≡ true → channel-registers.writtenOf c o v ≡ c
@@ -72,7 +60,7 @@ module _ (c : Channel) where
     where
       go : (r : Reading) → isRefusal (replyAnswerAs r c m) ≡ true → replyAs r c m ≡ c
       go (frame.refused k) h = refl
-      go (frame.fields id word aux crc) h = clash (sym (received-none c m) ∙ h)
+      go (frame.fields id word aux crc) h = clash (sym (received-accepted c m) ∙ h)
 
   pub reply-words : (s : List ℕ) (m u f : ℕ) → isRefusal (replies.replyAnswer c m f) ≡ true → replies.replyWords c s m u f ≡ s
   unfolding replies.replyAnswer replies.replyWords
@@ -80,7 +68,7 @@ module _ (c : Channel) where
     where
       go : (r : Reading) → isRefusal (replyAnswerAs r c m) ≡ true → replyWordsAs r c s m u ≡ s
       go (frame.refused k) h = refl
-      go (frame.fields id word aux crc) h = clash (sym (received-none c m) ∙ h)
+      go (frame.fields id word aux crc) h = clash (sym (received-accepted c m) ∙ h)
 
 -- ---- The board
 

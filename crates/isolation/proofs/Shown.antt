@@ -35,6 +35,8 @@ module _ (c : ℕ) (h : Number c) (w : World) where
       record {
         registers = register-shown;
         switches = refl;
+        waiting = refl;
+        receiving = refl;
         interruptStatus = refl;
         pollingStatus = refl;
         mainInterrupt = status-bit (w .board) false c h;

@@ -1,12 +1,16 @@
 -- Document 01, 'What holds it to this': demand 3, "each channel behaves as it would alone". The claim, and what stands beside it.
--- Proofs: Isolation and FedTheSame in proofs/Isolation.antt, IsolationShown and NotVacuous in Shown, DefaultsUnused in Defaults, the others in Refused and Others.
+-- Proofs: Isolation and FedTheSame in proofs/Isolation.antt, IsolationShown and NotVacuous in Shown, DefaultsUnused and OneFrameATick in
+-- Defaults, the others in Refused and Others.
 use Prim.Native.Nat.{ℕ, _+_, _*_, _<_, _≤_}
 use mathlib.Core.Path.{_≡_}
 use mathlib.Core.Bool.{true, false}
 use mathlib.Core.List.{List, [], _∷_}
 use lib.ListN.{length}
 use Rattle.status.specs.Bits.{bitAt}
+use Rattle.sequencer.specs.declared.Transmission.the-variants as transmission
+use Rattle.command_frames.specs.Commanding.{isDue}
 use Rattle.channel_core.specs.Answers as ans
+use Rattle.channel_core.specs.Behaviour.{playedOf}
 use Rattle.channel.specs.Calls.{mainBit}
 use Rattle.channel.specs.OneChannel.{OneChannel, oneChannel, response, transitions, responses, bufferOne, bufferTwo}
 use Rattle.channel.specs.OneChannel as to
@@ -47,6 +51,9 @@ pub record Shows (n m c : ℕ) (w : World) (o : OneChannel) : Type 0 where
   pub registers : (offset : ℕ) → offset < 0x800 → readAnswer (w .board) (0x800 * c + offset) ≡ response o (to.readRegister offset)
   -- the switch bits, which no read shows
   pub switches : channelAt (w .board) c .registers .switches ≡ o .channel .registers .switches
+  -- the command frame that waits, and whether replies go to E4–FA, which no read shows
+  pub waiting : channelAt (w .board) c .commands .waiting ≡ o .channel .commands .waiting
+  pub receiving : channelAt (w .board) c .commands .receiving ≡ o .channel .commands .receiving
   -- both statuses
   pub interruptStatus : channelAt (w .board) c .status .interrupt .bits ≡ o .channel .status .interrupt .bits
   pub pollingStatus : channelAt (w .board) c .status .polling .bits ≡ o .channel .status .polling .bits
@@ -107,6 +114,18 @@ DefaultsUnused =
     → (c : ℕ) → 1 ≤ c → c ≤ 4
     → (xs : List Item) → Allowed (opening n m s r) xs
     → InRange (view c (worldAfter (opening n m s r) xs))
+
+-- document 02, card 1: no channel's tick has two frames, so that "frame or none" loses nothing. From an opening, over any allowed list: where a command
+-- frame is due on the next tick, no setpoint is sent on it
+abbrev pub OneFrameATick : Type 0
+OneFrameATick =
+    (n m : ℕ) (s r : List ℕ)
+    → openAnswer n m (length s) (length r) ≡ ans.done
+    → (c : ℕ) → 1 ≤ c → c ≤ 4
+    → (xs : List Item) → Allowed (opening n m s r) xs
+    → let o = view c (worldAfter (opening n m s r) xs) in
+    isDue (o .channel .commands .waiting) ≡ true
+    → playedOf (o .channel) (o .setpoints) (o .n) (o .user) .transmission ≡ transmission.Nothing
 
 -- there are such lists: a setpoint write to channel 5, which is lent any words at all and refused, then a tick, which is not
 abbrev pub astray : List ℕ → Item

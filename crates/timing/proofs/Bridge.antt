@@ -16,7 +16,7 @@ use Rattle.sequencer.specs.declared.Transmission.the-variants as transmission
 use Rattle.command_frames.specs.declared.CommandFrames.{CommandFrames}
 use Rattle.command_frames.specs.Commanding.{isDue}
 use Rattle.command_frames.specs.Commanding as cmd
-use Rattle.command_frames.proofs.Laws.{ticked-due}
+use Rattle.command_frames.proofs.Laws.{ticked-due, ticked-registers}
 use Rattle.channel_core.specs.Answers.{Answer}
 use Rattle.channel_core.specs.Answers as ans
 use Rattle.channel_core.specs.State.{withStatus, withSequencer, withCommands}
@@ -24,7 +24,7 @@ use Rattle.channel_core.specs.Behaviour.{dueOf, tickOf, tickAnswer, sendStatus,
 use Rattle.channel_core.proofs.Laws.{line-none}
 use Rattle.channel.proofs.Cases.{either}
 use Rattle.channel.specs.OneChannel.{OneChannel, ChannelCall, tick, refusalOf, effect, answer, transition, response, transitions, withChannel}
-use Rattle.timing.specs.Ticking.{oneTick, after, onTick, wordAt, period, between, answerOn, played, plays, Keeps, Sent, NextFrame, Repeat}
+use Rattle.timing.specs.Ticking.{oneTick, after, onTick, wordAt, period, between, answerOn, played, plays, Keeps, Sent, NextSetpoint, Repeat}
 use Rattle.timing.specs.Timing as the
 
 -- a tick lent the right length is not refused
@@ -81,10 +81,15 @@ after-with o (suc k) =
     (sym (ap (λ (p : OneChannel). p .channel .status) e))
     ∙ ap (λ (f : CommandFrames). with o (after o (suc k) .channel .status) (played o (suc k)) f) (sym (ap (λ (p : OneChannel). p .channel .commands) e))
 
+-- one more tick of the command frames
+pub after-commands : (o : OneChannel) (k : ℕ)
+    → after o (suc k) .channel .commands ≡ cmd.ticked (after o k .channel .commands) (isSetpoint (plays o (suc k)))
+after-commands o k = ap (λ (p : OneChannel). p .channel .commands) (after-next o k (after-with o k))
+
 -- after a tick no command frame is due
 due-later : (o : OneChannel) (k : ℕ) → isDue (after o (suc k) .channel .commands .waiting) ≡ false
 due-later o k =
-    ap (λ (p : OneChannel). isDue (p .channel .commands .waiting)) (after-next o k (after-with o k))
+    ap (λ (f : CommandFrames). isDue (f .waiting)) (after-commands o k)
     ∙ ticked-due (after o k .channel .commands) (isSetpoint (plays o (suc k)))
 
 response-after : (o : OneChannel) (k : ℕ)
@@ -122,10 +127,37 @@ bridge o k = (after-with o k, on-tick o (k + 1) (omega arith))
 
 -- ---- Ticks after ticks
 
+-- E0, E2 and E4–FA stay
+commands-keep : (o : OneChannel) (k : ℕ)
+    → (after o k .channel .commands .header ≡ o .channel .commands .header)
+    × (after o k .channel .commands .word ≡ o .channel .commands .word)
+    × (after o k .channel .commands .replies ≡ o .channel .commands .replies)
+unfolding after
+commands-keep o zero = (refl, refl, refl)
+commands-keep o (suc k) =
+    let f = after o k .channel .commands in
+    let e = after-commands o k in
+    let t = ticked-registers f (isSetpoint (plays o (suc k))) in
+    let r = commands-keep o k in (
+      ap (λ (g : CommandFrames). g .header) e ∙ t .0 ∙ r .0,
+      ap (λ (g : CommandFrames). g .word) e ∙ t .1 ∙ r .1,
+      ap (λ (g : CommandFrames). g .replies) e ∙ t .2 ∙ r .2,
+    )
+
 pub after-keeps : (o : OneChannel) (k : ℕ) → Keeps o (after o k)
 after-keeps o k =
-    subst (Keeps o) (sym (after-with o k))
-    record { same-n = refl; same-m = refl; same-user = refl; same-registers = refl; same-setpoints = refl }
+    let c = commands-keep o k in
+    let a = after-with o k in
+    record {
+      same-n = ap (λ (p : OneChannel). p .n) a;
+      same-m = ap (λ (p : OneChannel). p .m) a;
+      same-user = ap (λ (p : OneChannel). p .user) a;
+      same-registers = ap (λ (p : OneChannel). p .channel .registers) a;
+      same-header = c .0;
+      same-word = c .1;
+      same-replies = c .2;
+      same-setpoints = ap (λ (p : OneChannel). p .setpoints) a;
+    }
 
 pub keeps-on : {o p q : OneChannel} → Keeps o p → Keeps p q → Keeps o q
 keeps-on a b =
@@ -134,6 +166,9 @@ keeps-on a b =
       same-m = b .same-m ∙ a .same-m;
       same-user = b .same-user ∙ a .same-user;
       same-registers = b .same-registers ∙ a .same-registers;
+      same-header = b .same-header ∙ a .same-header;
+      same-word = b .same-word ∙ a .same-word;
+      same-replies = b .same-replies ∙ a .same-replies;
       same-setpoints = b .same-setpoints ∙ a .same-setpoints;
     }
 
@@ -174,8 +209,8 @@ pub sent-after : (o : OneChannel) (k i : ℕ) → JustSent (wordAt o) (o .n) (pe
 sent-after o k i s = subst (λ (p : OneChannel). Sent p i) (sym (after-with o k)) s
 
 -- what leaves on tick k of the sequencer leaves so on the channel
-pub next-frame : (o : OneChannel) (k i : ℕ) → 1 ≤ k → Leaves (wordAt o) (o .n) (period o) (o .channel .sequencer) k i → NextFrame o k i
-next-frame o k i some l =
+pub next-setpoint : (o : OneChannel) (k i : ℕ) → 1 ≤ k → Leaves (wordAt o) (o .n) (period o) (o .channel .sequencer) k i → NextSetpoint o k i
+next-setpoint o k i some l =
     record {
       silent = λ j a b. on-tick o j a ∙ ap (answerOn o j) (l .silent j b);
       sent = on-tick o k some ∙ ap (answerOn o k) (l .sent);

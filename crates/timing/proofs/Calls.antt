@@ -105,3 +105,12 @@ pub event-registers : (c : Channel) (user code : ℕ) → triggersOf (c .registe
     → eventOf c user code .registers ≡ c .registers
 unfolding endedIf
 event-registers c user code off = leaves-event c user code .registers ∙ ap (λ (b : Bool). endedIf b c .registers) off
+
+-- and the command frames
+pub command-frames : (c : Channel) (value : ℕ) → bitAt value 2 ≡ false → commanded c value .commands ≡ c .commands
+unfolding endedIf
+command-frames c value off = leaves-command c value .commands ∙ ap (λ (b : Bool). endedIf b c .commands) off
+
+pub event-frames : (c : Channel) (user code : ℕ) → triggersOf (c .registers) groupEndEvent code ≡ false → eventOf c user code .commands ≡ c .commands
+unfolding endedIf
+event-frames c user code off = leaves-event c user code .commands ∙ ap (λ (b : Bool). endedIf b c .commands) off

@@ -5,3 +5,4 @@ pub mod Series
 pub mod Resuming
 pub mod Loaded
 pub mod Timing
+pub mod Commands

@@ -1,23 +1,24 @@
--- Of every channel that calls lead to from its opening: where it is not idle, ticks to its next send are left; and its command frames are told by those
--- calls. Assumes nothing.
+-- Of every channel that calls lead to from its opening: where it is not idle, ticks to its next send are left; with a function under way no command frame
+-- leaves. Assumes nothing.
 use Prim.Native.Nat.{ℕ, _≤_}
-use mathlib.Core.Path.{_≡_, sym, ap}
-use mathlib.Core.Bool.{false, cond}
+use mathlib.Core.Path.{_≡_, refl, sym}
+use mathlib.Core.Bool.{Bool, true, false}
 use mathlib.Core.List.{List, [], _∷_}
 use lib.Dec.{eqb}
 use Rattle.sequencer.specs.declared.Stage.{Stage}
 use Rattle.sequencer.specs.declared.Stage.the-variants as stage
-use Rattle.sequencer.specs.Playing.{isIdle}
-use Rattle.command_frames.specs.declared.CommandFrames.{CommandFrames}
+use Rattle.sequencer.specs.Playing.{isIdle, isStarting}
+use Rattle.command_frames.specs.Commanding.{isDue}
+use Rattle.channel_core.specs.declared.Channel.{Channel}
+use Rattle.channel_core.specs.Answers.{Answer}
 use Rattle.channel_core.specs.Answers as ans
 use Rattle.channel_core.specs.State.{opened}
-use Rattle.channel_core.specs.Behaviour.{commandAnswer}
 use Rattle.channel.specs.OneChannel.{OneChannel, ChannelCall, transition, transitions, oneChannel}
-use Rattle.channel.proofs.Cases.{clash}
-use Rattle.histories.specs.Ranges.{CountdownInRange, Countdown}
+use Rattle.channel.proofs.Cases.{clash, either}
+use Rattle.histories.specs.Ranges.{CountdownInRange, Countdown, ApartAt}
 use Rattle.histories.proofs.Calls.{steps}
-use Rattle.histories.proofs.Ranges.{Ordered, ordered-opened, ordered-step}
-use Rattle.histories.proofs.Commands.{commands-told}
+use Rattle.histories.proofs.Ranges.{Ordered, ordered-opened, ordered-step, ordered-from}
+use Rattle.timing.specs.Ticking.{between}
 use Rattle.timing.specs.Timing as the
 
 some-left : (g : Stage) (left resume : ℕ) → CountdownInRange g left resume → isIdle g ≡ false → 1 ≤ left
@@ -39,6 +40,25 @@ loaded n m s r ks =
     let q = transitions (oneChannel n m s r) ks .channel .sequencer in
     some-left (q .stage) (q .left) (q .resume) (countdown-kept (oneChannel n m s r) ks ordered-opened tt)
 
-pub between-told : the.BetweenTold
-between-told n m s r ks j =
-    ap (λ (f : CommandFrames). cond (eqb j 1) (commandAnswer f) ans.none) (commands-told n m s r ks)
+-- with a command frame due the channel is idle or starting
+waits-idle : (g : Stage) (left : ℕ) → isIdle g ≡ false → isStarting g ≡ false → ApartAt g left → ⊥
+waits-idle stage.Idle left i t a = clash (sym i)
+waits-idle stage.Starting left i t a = clash (sym t)
+waits-idle stage.Running left i t a = a
+waits-idle (stage.Paused k) left i t a = a
+waits-idle stage.Resuming left i t a = a
+waits-idle stage.Ended left i t a = a
+
+pub only-setpoints : the.OnlySetpoints
+only-setpoints n m s r ks idle starting j = go (isDue (c .commands .waiting)) refl
+  where
+    c : Channel
+    c = transitions (oneChannel n m s r) ks .channel
+
+    none : isDue (c .commands .waiting) ≡ false → between (transitions (oneChannel n m s r) ks) j ≡ ans.none
+    none e = rw e (either (λ (a : Answer). a ≡ ans.none) (eqb j 1) refl refl)
+
+    go : (b : Bool) → isDue (c .commands .waiting) ≡ b → between (transitions (oneChannel n m s r) ks) j ≡ ans.none
+    go true e =
+        absurd (waits-idle (c .sequencer .stage) (c .sequencer .left) idle starting (ordered-from (oneChannel n m s r) ks ordered-opened .apart .due e))
+    go false e = none e

@@ -19,9 +19,9 @@ use Rattle.sequencer.proofs.Laws as laws
 use Rattle.channel.specs.OneChannel.{OneChannel}
 use Rattle.channel.proofs.Cases.{by-test}
 use Rattle.histories.proofs.Calls as clock
-use Rattle.timing.specs.Ticking.{after, wordAt, period, frameOf, played, Keeps, Sent, NextFrame, Still}
+use Rattle.timing.specs.Ticking.{after, wordAt, period, frameOf, played, Keeps, Sent, NextSetpoint, Still}
 use Rattle.timing.specs.Timing as the
-use Rattle.timing.proofs.Bridge.{next-frame, repeat, after-keeps, after-add, on-tick-add, between-add, after-with}
+use Rattle.timing.proofs.Bridge.{next-setpoint, repeat, after-keeps, after-add, on-tick-add, between-add, after-with}
 
 pub period-some : (o : OneChannel) → 1 ≤ period o
 period-some o = clock.period-some (o .channel .registers .clock)
@@ -29,13 +29,13 @@ period-some o = clock.period-some (o .channel .registers .clock)
 pub plain-next : the.PlainNext
 plain-next o i sent plain =
     let some = period-some o in
-    next-frame o (period o) (i + 1) some
+    next-setpoint o (period o) (i + 1) some
     (laws.plain-next (wordAt o) (o .n) (period o) i (o .channel .sequencer) sent plain some)
 
 pub countdown : the.Countdown
 countdown o h some =
     let q = o .channel .sequencer in
-    next-frame o (q .left) (q .index) some (laws.countdown (wordAt o) (o .n) (period o) q h some)
+    next-setpoint o (q .left) (q .index) some (laws.countdown (wordAt o) (o .n) (period o) q h some)
 
 -- what is kept keeps words, period and frames
 module _ {o p : OneChannel} (k : Keeps o p) where
@@ -53,10 +53,10 @@ module _ {o p : OneChannel} (k : Keeps o p) where
 
 -- the next of plain words, x ticks from now
 next-at : (o : OneChannel) (i x : ℕ) → Sent (after o x) i → kindAt (wordAt o) (o .n) i ≡ kind.Plain
-    → NextFrame (after o x) (period o) (i + 1)
+    → NextSetpoint (after o x) (period o) (i + 1)
 next-at o i x sent plain =
     let k = after-keeps o x in
-    subst (λ (p : ℕ). NextFrame (after o x) p (i + 1)) (same-period k)
+    subst (λ (p : ℕ). NextSetpoint (after o x) p (i + 1)) (same-period k)
     (plain-next (after o x) i sent (same-kind k i ∙ plain))
 
 -- h plain words later

@@ -11,39 +11,50 @@ use Rattle.sequencer.specs.Runs.{Leaves}
 use Rattle.sequencer.proofs.Laws as laws
 use Rattle.channel_core.specs.Behaviour.{endedIf}
 use Rattle.channel_core.specs.declared.Channel.{Channel}
+use Rattle.command_frames.specs.declared.CommandFrames.{CommandFrames}
 use Rattle.channel.specs.OneChannel.{OneChannel, transition, withChannel, withReadbacks}
-use Rattle.timing.specs.Ticking.{wordAt, period, Keeps, NextFrame}
+use Rattle.timing.specs.Ticking.{wordAt, period, Keeps, NextSetpoint}
 use Rattle.timing.specs.Timing.{command, eventCall, triggeredBy, delay}
 use Rattle.timing.specs.Timing as the
-use Rattle.timing.proofs.Bridge.{next-frame}
-use Rattle.timing.proofs.Calls.{command-transition, event-transition, command-starts, event-starts, command-registers, event-registers}
+use Rattle.timing.proofs.Bridge.{next-setpoint}
+use Rattle.timing.proofs.Calls.{command-transition, event-transition, command-starts, event-starts, command-registers, event-registers, command-frames, event-frames}
 
-start-frame : (o : OneChannel) (s : Sequencer) (d : ℕ) → o .channel .sequencer ≡ seq.started s d → NextFrame o (d + 10) 0
-start-frame o s d e =
-    next-frame o (d + 10) 0 (omega arith)
+start-setpoint : (o : OneChannel) (s : Sequencer) (d : ℕ) → o .channel .sequencer ≡ seq.started s d → NextSetpoint o (d + 10) 0
+start-setpoint o s d e =
+    next-setpoint o (d + 10) 0 (omega arith)
     (subst (λ (q : Sequencer). Leaves (wordAt o) (o .n) (period o) q (d + 10) 0) (sym e)
     (laws.start (wordAt o) (o .n) (period o) s d))
 
 pub start-by-command : the.StartByCommand
 start-by-command o value armed on =
     let c = o .channel in
-    start-frame (transition o (command o value)) (endedIf (bitAt value 2) c .sequencer) 0
+    start-setpoint (transition o (command o value)) (endedIf (bitAt value 2) c .sequencer) 0
     (ap (λ (p : OneChannel). p .channel .sequencer) (command-transition o value) ∙ command-starts c value armed on)
 
 pub start-by-event : the.StartByEvent
 start-by-event o code armed on =
     let c = o .channel in
-    start-frame (transition o (eventCall o code)) (endedIf (triggeredBy o groupEndEvent code) c .sequencer) (delay o 0)
+    start-setpoint (transition o (eventCall o code)) (endedIf (triggeredBy o groupEndEvent code) c .sequencer) (delay o 0)
     (ap (λ (p : OneChannel). p .channel .sequencer) (event-transition o code) ∙ event-starts c (o .user) code armed on)
 
-same-registers-keep : (o : OneChannel) (c : Channel) (s : List ℕ) → c .registers ≡ o .channel .registers
+same-registers-keep : (o : OneChannel) (c : Channel) (s : List ℕ) → c .registers ≡ o .channel .registers → c .commands ≡ o .channel .commands
     → Keeps o (withReadbacks (withChannel o c) s)
-same-registers-keep o c s e = record { same-n = refl; same-m = refl; same-user = refl; same-registers = e; same-setpoints = refl }
+same-registers-keep o c s e f =
+    record {
+      same-n = refl;
+      same-m = refl;
+      same-user = refl;
+      same-registers = e;
+      same-header = ap (λ (g : CommandFrames). g .header) f;
+      same-word = ap (λ (g : CommandFrames). g .word) f;
+      same-replies = ap (λ (g : CommandFrames). g .replies) f;
+      same-setpoints = refl;
+    }
 
 pub start-keeps : the.StartKeeps
 start-keeps o = (
   λ value off.
-      subst (Keeps o) (sym (command-transition o value)) (same-registers-keep o _ _ (command-registers (o .channel) value off)),
+      subst (Keeps o) (sym (command-transition o value)) (same-registers-keep o _ _ (command-registers (o .channel) value off) (command-frames (o .channel) value off)),
   λ code off.
-      subst (Keeps o) (sym (event-transition o code)) (same-registers-keep o _ _ (event-registers (o .channel) (o .user) code off)),
+      subst (Keeps o) (sym (event-transition o code)) (same-registers-keep o _ _ (event-registers (o .channel) (o .user) code off) (event-frames (o .channel) (o .user) code off)),
 )

@@ -4,13 +4,12 @@ use Rattle.timing.proofs.Bridge.{bridge, later-ticks}
 use Rattle.timing.proofs.Starts.{start-by-command, start-by-event, start-keeps}
 use Rattle.timing.proofs.Series.{countdown, plain-next, series, held, held-stays, held-word}
 use Rattle.timing.proofs.Resuming.{resume-by-event, resume-by-command, other-pause, vme-pause, not-by-d1, meanwhile}
-use Rattle.timing.proofs.Loaded.{loaded, between-told}
+use Rattle.timing.proofs.Loaded.{loaded, only-setpoints}
 
 pub timing : the.Timing
 timing =
     record {
       bridge = bridge;
-      between-told = between-told;
       later-ticks = later-ticks;
       start-by-command = start-by-command;
       start-by-event = start-by-event;
@@ -28,4 +27,5 @@ timing =
       not-by-d1 = not-by-d1;
       meanwhile = meanwhile;
       loaded = loaded;
+      only-setpoints = only-setpoints;
     }

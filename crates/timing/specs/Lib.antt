@@ -1,2 +1,3 @@
 pub mod Ticking
 pub mod Timing
+pub mod Commands

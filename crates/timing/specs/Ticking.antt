@@ -44,7 +44,7 @@ abbrev pub frameOf : OneChannel → ℕ → Answer
 frameOf o word = ans.frame (encoded (o .channel .registers .id) (word % 65536) 0)
 
 -- what tick j from now answers where no setpoint leaves: the command frame on the next tick, if one is due, and none. (Whether one is due is told by
--- calls and answers: `BetweenTold`.)
+-- calls and answers: `CommandsTold` in histories; with a function under way none is: `OnlySetpoints`.)
 abbrev pub between : OneChannel → ℕ → Answer
 between o j = cond (eqb j 1) (commandAnswer (o .channel .commands)) ans.none
 
@@ -60,12 +60,15 @@ played o k = ticks (wordAt o) (o .n) (period o) (o .channel .sequencer) k
 abbrev pub plays : OneChannel → ℕ → Transmission
 plays o j = sends (wordAt o) (o .n) (period o) (o .channel .sequencer) j
 
--- depths, user, registers and setpoint words are the same: so are its words, period, delays and Frame ID
+-- depths, user, registers (E0, E2 and E4–FA too) and setpoint words are the same: so are its words, period, delays and Frame ID
 pub record Keeps (o p : OneChannel) : Type 0 where
   pub same-n : p .n ≡ o .n
   pub same-m : p .m ≡ o .m
   pub same-user : p .user ≡ o .user
   pub same-registers : p .channel .registers ≡ o .channel .registers
+  pub same-header : p .channel .commands .header ≡ o .channel .commands .header
+  pub same-word : p .channel .commands .word ≡ o .channel .commands .word
+  pub same-replies : p .channel .commands .replies ≡ o .channel .commands .replies
   pub same-setpoints : p .setpoints ≡ o .setpoints
 
 -- its sequencer stands as just after the first sending of the word at index i
@@ -73,7 +76,7 @@ abbrev pub Sent : OneChannel → ℕ → Type 0
 Sent o i = JustSent (wordAt o) (o .n) (period o) i (o .channel .sequencer)
 
 -- the next setpoint is the word at index i, and leaves on tick k: on ticks 1 to k − 1 none does
-pub record NextFrame (o : OneChannel) (k i : ℕ) : Type 0 where
+pub record NextSetpoint (o : OneChannel) (k i : ℕ) : Type 0 where
   pub silent : (j : ℕ) → 1 ≤ j → j < k → onTick o j ≡ between o j
   pub sent : onTick o k ≡ frameOf o (wordAt o i)
   pub done : Sent (after o k) i
@@ -87,8 +90,8 @@ pub record Repeat (o : OneChannel) (word left j : ℕ) (x : Answer) : Type 0 whe
 abbrev pub KeptRepeat : OneChannel → ℕ → Answer → Type 0
 KeptRepeat o j x = Repeat o (o .channel .sequencer .word) (o .channel .sequencer .left) j x
 
--- `r` is the paused channel `o`, once a resume with this delay was loaded: repeats go on through the delay, its last tick included; then 9 ticks
--- are silent and the frame of the index due leaves on the 10th, restarting the clock
+-- `r` is the paused channel `o`, once a resume with this delay was loaded: repeats go on through the delay, its last tick included; then no setpoint
+-- leaves on 9 ticks, and that of the index due leaves on the 10th, restarting the clock
 pub record Resumes (o r : OneChannel) (delay : ℕ) : Type 0 where
   pub repeats : (j : ℕ) → 1 ≤ j → j ≤ delay → KeptRepeat o j (onTick r j)
   pub silent : (j : ℕ) → delay < j → j < delay + 10 → onTick r j ≡ between o j

@@ -2,21 +2,18 @@
 -- Document 02, card 1: a command frame may leave on the next tick, where no setpoint does (`between`).
 use Prim.Native.Nat.{ℕ, _+_, _*_, _≤_, _<_}
 use mathlib.Core.Path.{_≡_}
-use mathlib.Core.Bool.{Bool, true, false, cond}
+use mathlib.Core.Bool.{Bool, true, false}
 use mathlib.Core.List.{List}
-use lib.Dec.{eqb}
 use Rattle.status.specs.Bits.{bitAt}
 use Rattle.registers.specs.Map.{triggersOf, delayOf, startEvent, groupEndEvent}
 use Rattle.sequencer.specs.declared.Kind.the-variants as kind
 use Rattle.sequencer.specs.declared.Stage.the-variants as stage
-use Rattle.sequencer.specs.Playing.{isIdle}
+use Rattle.sequencer.specs.Playing.{isIdle, isStarting}
 use Rattle.sequencer.specs.Runs.{kindAt, advances, holds}
 use Rattle.channel_core.specs.Answers as ans
 use Rattle.channel_core.specs.State.{withStatus, withSequencer, withCommands}
-use Rattle.channel_core.specs.Behaviour.{commandAnswer}
 use Rattle.channel.specs.OneChannel.{OneChannel, ChannelCall, writeRegister, event, transition, transitions, oneChannel, withChannel}
-use Rattle.histories.specs.Commands.{commandsOver}
-use Rattle.timing.specs.Ticking.{after, onTick, wordAt, period, between, answerOn, frameOf, played, plays, Keeps, Sent, NextFrame, Repeat, KeptRepeat, Resumes, Still}
+use Rattle.timing.specs.Ticking.{after, onTick, wordAt, period, between, answerOn, frameOf, played, plays, Keeps, Sent, NextSetpoint, Repeat, KeptRepeat, Resumes, Still}
 
 -- ---- The two calls that start and resume, each lent memory of the right length
 
@@ -45,13 +42,6 @@ Bridge =
     ≡ withChannel o (withCommands (withSequencer (withStatus (o .channel) (after o k .channel .status)) (played o k)) (after o k .channel .commands)))
     × (onTick o (k + 1) ≡ answerOn o (k + 1) (plays o (k + 1)))
 
--- the command frame of the next tick, of every channel that calls lead to: told by those calls and their answers, in document 02's terms
-abbrev pub BetweenTold : Type 0
-BetweenTold =
-    (n m : ℕ) (setpoints readbacks : List ℕ) (calls : List ChannelCall) (j : ℕ)
-    → between (transitions (oneChannel n m setpoints readbacks) calls) j
-    ≡ cond (eqb j 1) (commandAnswer (commandsOver n m setpoints readbacks calls)) ans.none
-
 -- so tick k + j from now is tick j after k ticks
 abbrev pub LaterTicks : Type 0
 LaterTicks =
@@ -64,13 +54,13 @@ LaterTicks =
 abbrev pub StartByCommand : Type 0
 StartByCommand =
     (o : OneChannel) (value : ℕ) → o .channel .sequencer .armed ≡ true → bitAt value 0 ≡ true
-    → NextFrame (transition o (command o value)) 10 0
+    → NextSetpoint (transition o (command o value)) 10 0
 
 -- by its event, whatever the other event registers
 abbrev pub StartByEvent : Type 0
 StartByEvent =
     (o : OneChannel) (code : ℕ) → o .channel .sequencer .armed ≡ true → triggeredBy o startEvent code ≡ true
-    → NextFrame (transition o (eventCall o code)) (delay o 0 + 10) 0
+    → NextSetpoint (transition o (eventCall o code)) (delay o 0 + 10) 0
 
 -- with no Group End, Frame ID and words of that frame are those from before the Start
 abbrev pub StartKeeps : Type 0
@@ -85,19 +75,19 @@ StartKeeps =
 abbrev pub Countdown : Type 0
 Countdown =
     (o : OneChannel) → advances (o .channel .sequencer .stage) ≡ true → 1 ≤ o .channel .sequencer .left
-    → NextFrame o (o .channel .sequencer .left) (o .channel .sequencer .index)
+    → NextSetpoint o (o .channel .sequencer .left) (o .channel .sequencer .index)
 
 abbrev pub PlainNext : Type 0
-PlainNext = (o : OneChannel) (i : ℕ) → Sent o i → kindAt (wordAt o) (o .n) i ≡ kind.Plain → NextFrame o (period o) (i + 1)
+PlainNext = (o : OneChannel) (i : ℕ) → Sent o i → kindAt (wordAt o) (o .n) i ≡ kind.Plain → NextSetpoint o (period o) (i + 1)
 
--- so where the words from index i to i + h are plain, they follow each other by one period, and nothing leaves between
+-- so where the words from index i to i + h are plain, they follow each other by one period, and no setpoint leaves between
 abbrev pub Series : Type 0
 Series =
     (o : OneChannel) (i h : ℕ) → Sent o i → ((g : ℕ) → g ≤ h → kindAt (wordAt o) (o .n) (i + g) ≡ kind.Plain)
     → ((d : ℕ) → 1 ≤ d → d < period o → onTick o (h * period o + d) ≡ between o (h * period o + d))
     × (onTick o (h * period o + period o) ≡ frameOf o (wordAt o (i + h + 1)))
 
--- paused, or after the last word: the kept word on the beat, and nothing off it
+-- paused, or after the last word: the kept word on the beat, and no setpoint off it
 abbrev pub Held : Type 0
 Held =
     (o : OneChannel) → holds (o .channel .sequencer .stage) ≡ true → 1 ≤ o .channel .sequencer .left
@@ -168,11 +158,19 @@ Loaded =
     → isIdle (transitions (oneChannel n m setpoints readbacks) calls .channel .sequencer .stage) ≡ false
     → 1 ≤ transitions (oneChannel n m setpoints readbacks) calls .channel .sequencer .left
 
+-- a command frame leaves only from an idle channel, or before the first word: of every channel that calls lead to, with a function under way nothing
+-- but setpoints leaves
+abbrev pub OnlySetpoints : Type 0
+OnlySetpoints =
+    (n m : ℕ) (setpoints readbacks : List ℕ) (calls : List ChannelCall)
+    → let o = transitions (oneChannel n m setpoints readbacks) calls in
+    isIdle (o .channel .sequencer .stage) ≡ false → isStarting (o .channel .sequencer .stage) ≡ false
+    → (j : ℕ) → between o j ≡ ans.none
+
 -- ---- All of it
 
 pub record Timing : Type 0 where
   pub bridge : Bridge
-  pub between-told : BetweenTold
   pub later-ticks : LaterTicks
   pub start-by-command : StartByCommand
   pub start-by-event : StartByEvent
@@ -190,3 +188,4 @@ pub record Timing : Type 0 where
   pub not-by-d1 : NotByD1
   pub meanwhile : Meanwhile
   pub loaded : Loaded
+  pub only-setpoints : OnlySetpoints

@@ -6,8 +6,8 @@ use Rattle.channel_core.proofs.send_line.Tie as tie
 enum-told : tie.Need-enum-told
 enum-told c = search needs
 
-command-line-requires : tie.Need-command-line-requires
-command-line-requires c κs = search needs
+due-line-requires : tie.Need-due-line-requires
+due-line-requires c κs = search needs
 
 enum-known-sent : tie.Need-enum-known-sent
 enum-known-sent c = search needs
@@ -16,7 +16,7 @@ setpoint-frame-requires : tie.Need-setpoint-frame-requires
 setpoint-frame-requires c κs = search needs
 
 returns : tie.Need-returns
-returns c = simp (c .before .enum-told .given .1, c .command-line .ensures)
+returns c = simp (c .before .enum-told .given .1, c .due-line .ensures)
 
 returns-2 : tie.Need-returns-2
 returns-2 c = simp (c .before .before .sent .given .1, c .setpoint-frame .ensures)
@@ -24,4 +24,4 @@ returns-2 c = simp (c .before .before .sent .given .1, c .setpoint-frame .ensure
 pub send-line-spec : {M : Type 1} → statement M
 send-line-spec =
     tie.close
-    (tie.spec enum-told command-line-requires enum-known-sent setpoint-frame-requires returns returns-2)
+    (tie.spec enum-told due-line-requires enum-known-sent setpoint-frame-requires returns returns-2)

@@ -25,15 +25,15 @@ write-verdict-requires c κs = search needs
 enum-told : tie.Need-enum-told
 enum-told c = search needs
 
-function-active-requires : tie.Need-function-active-requires
-function-active-requires c κs = search needs
+cannot-send-requires : tie.Need-cannot-send-requires
+cannot-send-requires c κs = search needs
 
 returns : tie.Need-returns
 unfolding registerRefusal
 returns c =
     let s = c .before .before in
     rw (← verdict (s .before .before))
-    (simp (s .enum-told .given .1, sym (c .before .function-active .ensures) ∙ c .if1 .taken))
+    (simp (s .enum-told .given .1, sym (c .before .cannot-send .ensures) ∙ c .if1 .taken))
 
 returns-2 : tie.Need-returns-2
 unfolding registerRefusal
@@ -42,7 +42,7 @@ returns-2 c =
     rw (← verdict (f .before .before .before))
     (simp (
       f .before .enum-told .given .1,
-      sym (f .function-active .ensures) ∙ c .before .before .if1 .left,
+      sym (f .cannot-send .ensures) ∙ c .before .before .if1 .left,
       eq-eqb _ _ (c .before .if2 .taken),
       lt-ltb _ _ (c .if3 .taken),
     ))
@@ -57,7 +57,7 @@ returns-3 c =
     rw (← verdict (f .before .before .before))
     (simp (
       f .before .enum-told .given .1,
-      sym (f .function-active .ensures) ∙ c .before .before .if1 .left,
+      sym (f .cannot-send .ensures) ∙ c .before .before .if1 .left,
       eq-eqb _ _ (c .before .if2 .taken),
       le-ltb _ _ (c .if3 .left),
     ))
@@ -67,7 +67,7 @@ unfolding registerRefusal
 returns-4 c =
     let f = c .before .before in
     rw (← verdict (f .before .before .before))
-    (simp (f .before .enum-told .given .1, sym (f .function-active .ensures) ∙ c .before .if1 .left, ne-eqb _ _ (c .if2 .left)))
+    (simp (f .before .enum-told .given .1, sym (f .cannot-send .ensures) ∙ c .before .if1 .left, ne-eqb _ _ (c .if2 .left)))
 
 returns-5 : tie.Need-returns-5
 unfolding registerRefusal
@@ -82,7 +82,7 @@ write-check-spec =
     channel-access-requires
     write-verdict-requires
     enum-told
-    function-active-requires
+    cannot-send-requires
     returns
     returns-2
     enum-known-verdict

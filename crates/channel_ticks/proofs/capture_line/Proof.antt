@@ -1,5 +1,5 @@
 -- `channel_ticks::capture_line` meets its contract: the frame at the first place, if there is one. Assumes nothing.
-use mathlib.Core.Path.{refl, sym}
+use mathlib.Core.Path.{sym}
 use borrow.Author.Needs.{needs}
 use denote.Ref.{now}
 use Rattle.channel_ticks.proofs.Captures.{set-past}

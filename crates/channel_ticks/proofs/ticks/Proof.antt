@@ -23,7 +23,7 @@ abbrev μ-loop : tie.MeasureT-loop
 μ-loop setpoints n user count captured₀ first id at second period progress₀ done₀ captured progress done = count - done
 
 -- where a command frame that was due has left
-abbrev begun : tie.At-loop Inv-loop μ-loop → tie.After-begin Inv-loop μ-loop
+abbrev begun : tie.At-loop Inv-loop μ-loop → tie.After-command-tick Inv-loop μ-loop
 begun c = c .before .before .before .before .before .before .before .before .before
 
 -- the call's arguments and their ranges
@@ -35,28 +35,28 @@ abbrev turn : tie.After-skip Inv-loop μ-loop → tie.At-loop Inv-loop μ-loop
 turn c = c .before .before .before .before .before
 
 -- with ticks to come no command frame is due
-none-due : (c : tie.At-loop Inv-loop μ-loop) → c .loop .done < start c .args .count → NoneDue (begun c .begin .result .channel)
+none-due : (c : tie.At-loop Inv-loop μ-loop) → c .loop .done < start c .args .count → NoneDue (begun c .command-tick .result .channel)
 none-due c h =
     let a = start c .args in
-    let e = begun c .begin .ensures in
+    let e = begun c .command-tick .ensures in
     subst NoneDue (sym (e .1)) (after-command-none (now (a .setpoints)) (a .n) (a .user) (a .c) (a .count) (omega (arith, e .0, c .loop .inv .0)))
 
 -- so far, of the channel and the list that the call was given
 held : (c : tie.At-loop Inv-loop μ-loop) →
     let a = start c .args in
     let x = c .loop .progress in
-    Held (now (a .setpoints)) (a .n) (a .user) (a .c) (begun c .begin .result .channel) (now (a .captured)) (c .loop .done) (x .status) (x .sequencer)
+    Held (now (a .setpoints)) (a .n) (a .user) (a .c) (begun c .command-tick .result .channel) (now (a .captured)) (c .loop .done) (x .status) (x .sequencer)
     (x .receiving) (x .frames) (c .loop .captured)
 held c =
     let a = start c .args in
-    let b = begun c .begin .ensures in
-    let p = c .before .advance .ensures in
+    let b = begun c .command-tick .ensures in
+    let p = c .before .begin .ensures in
     c .loop .inv .3 (a .c) (now (a .captured))
     (held-begun (now (a .setpoints)) (a .n) (a .user) (a .c) _ (now (a .captured)) (a .count) (b .0) (b .1) (b .2) (b .3) (p .0) (p .1) (p .2) (p .3))
 
 skipped : (c : tie.After-skip Inv-loop μ-loop) →
     let a = start (turn c) .args in
-    let b = begun (turn c) .begin .result in
+    let b = begun (turn c) .command-tick .result in
     let x = c .skip .result in
     (u : Channel) (l : List ℕ)
     → Held (now (a .setpoints)) (a .n) (a .user) u (b .channel) l (turn c .loop .done) (turn c .loop .progress .status) (turn c .loop .progress .sequencer)
@@ -64,12 +64,12 @@ skipped : (c : tie.After-skip Inv-loop μ-loop) →
     → Held (now (a .setpoints)) (a .n) (a .user) u (b .channel) l (turn c .loop .done + c .before .least .result) (x .status) (x .sequencer) (x .receiving) (x .frames)
     (turn c .loop .captured)
 skipped c u l x =
-    held-quiet _ _ _ u (begun (turn c) .begin .result .channel) l _ _ x (none-due (turn c) (c .before .before .before .before .loop-test .taken))
+    held-quiet _ _ _ u (begun (turn c) .command-tick .result .channel) l _ _ x (none-due (turn c) (c .before .before .before .before .loop-test .taken))
     (omega (arith, c .before .least .ensures, c .before .before .quiet-ticks .ensures))
     (c .skip .ensures .0) (c .skip .ensures .1) (c .skip .ensures .2) (c .skip .ensures .3)
 
-begin-requires : tie.Need-begin-requires Inv-loop μ-loop
-begin-requires c κs = search needs
+command-tick-requires : tie.Need-command-tick-requires Inv-loop μ-loop
+command-tick-requires c κs = search needs
 
 zero-based-requires : tie.Need-zero-based-requires Inv-loop μ-loop
 zero-based-requires c κs = search needs
@@ -80,14 +80,14 @@ second-active-requires c κs = search needs
 period-requires : tie.Need-period-requires Inv-loop μ-loop
 period-requires c κs = search needs
 
-advance-requires : tie.Need-advance-requires Inv-loop μ-loop
-advance-requires c κs = search needs
+begin-requires : tie.Need-begin-requires Inv-loop μ-loop
+begin-requires c κs = search needs
 
 loop-holds : tie.Need-loop-holds Inv-loop μ-loop
 loop-holds c =
     let b = c .before .before .before .before .before .before .before .before in
     let a = b .before .before .before .before .args in
-    (omega arith, omega (arith, b .begin .ensures .0, commands-few (now (a .setpoints)) (a .n) (a .user) (a .c) (a .count)), refl, λ u l x. x)
+    (omega arith, omega (arith, b .command-tick .ensures .0, commands-few (now (a .setpoints)) (a .n) (a .user) (a .c) (a .count)), refl, λ u l x. x)
 
 quiet-ticks-requires : tie.Need-quiet-ticks-requires Inv-loop μ-loop
 quiet-ticks-requires c κs = search needs
@@ -148,7 +148,7 @@ loop-again c =
       omega (arith, x .if1 .taken),
       search needs,
       λ u l y.
-          held-tick _ _ _ u (begun t .begin .result .channel) l _ _ _ _ (skipped (x .before) u l (t .loop .inv .3 u l y))
+          held-tick _ _ _ u (begun t .command-tick .result .channel) l _ _ _ _ (skipped (x .before) u l (t .loop .inv .3 u l y))
           (none-due t (x .before .before .before .before .before .loop-test .taken))
           (simp (w .before .before .word-at .ensures, place .setpoint-place .ensures, o .second-active .ensures, o .before .zero-based .ensures))
           (t .before .before .period .ensures) refl (e .0) (e .1) (e .2) (e .3) (e .4),
@@ -186,11 +186,11 @@ ticks-spec =
     (tie.spec
     Inv-loop
     μ-loop
-    begin-requires
+    command-tick-requires
     zero-based-requires
     second-active-requires
     period-requires
-    advance-requires
+    begin-requires
     loop-holds
     quiet-ticks-requires
     sub-least

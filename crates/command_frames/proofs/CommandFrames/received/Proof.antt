@@ -1,9 +1,19 @@
--- `command_frames::CommandFrames::received` meets its contract. Assumes nothing.
-use Rattle.command_frames.specs.Commanding.{received, takes}
-use borrow.Author.Tests.{lt-ltb, le-ltb, le-leb, lt-leb}
+-- `command_frames::CommandFrames::received` meets its contract: the pair at its place, where it is taken. Assumes nothing.
+use Prim.Native.Nat.{_<_}
+use mathlib.Core.Path.{sym, _∙_}
+use native.Mathlib.Omega.{arith}
 use borrow.Author.Needs.{needs}
+use Rattle.command_frames.specs.Commanding.{received}
+use Rattle.command_frames.proofs.Laws.{taken-few}
 use Rattle.command_frames.proofs.CommandFrames.received.Statement.{statement}
 use Rattle.command_frames.proofs.CommandFrames.received.Tie as tie
+
+-- taken, fewer than six are there
+few : (c : tie.After-id-word) → c .before .before .before .args .self .count < 6
+few c = taken-few (c .before .before .before .args .self) (sym (c .before .before .takes .ensures) ∙ c .before .if1 .taken)
+
+takes-requires : tie.Need-takes-requires
+takes-requires c κs = search needs
 
 cast-place : tie.Need-cast-place
 cast-place c = search needs
@@ -18,7 +28,7 @@ mul-next : tie.Need-mul-next
 mul-next c = search needs
 
 element-write-next : tie.Need-element-write-next
-element-write-next c = search needs
+element-write-next c = omega (arith, few c)
 
 add-next : tie.Need-add-next
 add-next c = search needs
@@ -27,39 +37,24 @@ mul-next-2 : tie.Need-mul-next-2
 mul-next-2 c = search needs
 
 element-write-next-2 : tie.Need-element-write-next-2
-element-write-next-2 c = search needs
+element-write-next-2 c = omega (arith, few c)
 
 add-next-2 : tie.Need-add-next-2
-add-next-2 c = search needs
+add-next-2 c = omega (arith, few c)
 
 returns : tie.Need-returns
-unfolding received takes
-returns c =
-    simp (
-      c .id-word .ensures,
-      lt-ltb _ _ (c .before .if2 .taken),
-      lt-leb _ _ (c .before .if2 .taken),
-      c .before .before .if1 .taken,
-    )
+unfolding received
+returns c = simp (c .id-word .ensures, sym (c .before .before .takes .ensures) ∙ c .before .if1 .taken)
 
 returns-2 : tie.Need-returns-2
-unfolding received takes
-returns-2 c =
-    simp (
-      le-leb _ _ (c .if2 .left),
-      le-ltb _ _ (c .if2 .left),
-      c .before .if1 .taken,
-    )
-
-returns-3 : tie.Need-returns-3
-unfolding received takes
-returns-3 c =
-    simp (c .if1 .left)
+unfolding received
+returns-2 c = simp (sym (c .before .takes .ensures) ∙ c .if1 .left)
 
 pub received-spec : {M : Type 1} → statement M
 received-spec =
     tie.close
     (tie.spec
+    takes-requires
     cast-place
     mul-place
     id-word-requires
@@ -70,5 +65,4 @@ received-spec =
     element-write-next-2
     add-next-2
     returns
-    returns-2
-    returns-3)
+    returns-2)

@@ -1,4 +1,4 @@
--- `channel_ticks::begin` meets its contract: one tick where a command frame is due and a tick is asked for, else none. Assumes nothing.
+-- `channel_ticks::command_tick` meets its contract: one tick where a command frame is due and a tick is asked for, else none. Assumes nothing.
 use Prim.Native.Nat.{ℕ, _<_, _≤_, min}
 use mathlib.Core.Path.{_≡_, refl, sym, _∙_}
 use mathlib.Core.Bool.{true, false}
@@ -7,18 +7,18 @@ use native.Mathlib.Nat.{zero-add}
 use borrow.Author.Needs.{needs}
 use Rattle.command_frames.specs.Commanding.{isDue}
 use Rattle.channel_core.specs.declared.Channel.{Channel}
-use Rattle.channel_ticks.specs.Ticks.{ticksOf, framesIn, framesAt, commandTicks}
-use Rattle.channel_ticks.proofs.begin.Statement.{statement}
-use Rattle.channel_ticks.proofs.begin.Tie as tie
+use Rattle.channel_ticks.specs.Ticks.{ticksOf, framesIn, framesAt, firstTicks}
+use Rattle.channel_ticks.proofs.command_tick.Statement.{statement}
+use Rattle.channel_ticks.proofs.command_tick.Tie as tie
 
 module _ (c : Channel) (count : ℕ) where
-  one : isDue (c .commands .waiting) ≡ true → 0 < count → commandTicks c count ≡ 1
+  one : isDue (c .commands .waiting) ≡ true → 0 < count → firstTicks c count ≡ 1
   one e h = let m : min count 1 ≡ 1 = omega arith in simp (e, m)
 
-  none-asked : isDue (c .commands .waiting) ≡ true → count ≤ 0 → commandTicks c count ≡ 0
+  none-asked : isDue (c .commands .waiting) ≡ true → count ≤ 0 → firstTicks c count ≡ 0
   none-asked e h = let m : min count 1 ≡ 0 = omega arith in simp (e, m)
 
-  none-due : isDue (c .commands .waiting) ≡ false → commandTicks c count ≡ 0
+  none-due : isDue (c .commands .waiting) ≡ false → firstTicks c count ≡ 0
   none-due e = simp e
 
 is-due-requires : tie.Need-is-due-requires
@@ -60,8 +60,8 @@ returns-3 c =
     let a = c .before .before .before .before .before .args in
     rw (none-due (a .c) (a .count) (sym (c .before .is-due .ensures) ∙ c .if1 .left)) (refl, refl, refl, refl)
 
-pub begin-spec : {M : Type 1} → statement M
-begin-spec =
+pub command-tick-spec : {M : Type 1} → statement M
+command-tick-spec =
     tie.close
     (tie.spec
     is-due-requires

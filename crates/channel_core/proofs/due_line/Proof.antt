@@ -1,8 +1,8 @@
--- `channel_core::command_line` meets its contract. Assumes nothing.
+-- `channel_core::due_line` meets its contract. Assumes nothing.
 use mathlib.Core.Path.{sym, _∙_}
 use borrow.Author.Needs.{needs}
-use Rattle.channel_core.proofs.command_line.Statement.{statement}
-use Rattle.channel_core.proofs.command_line.Tie as tie
+use Rattle.channel_core.proofs.due_line.Statement.{statement}
+use Rattle.channel_core.proofs.due_line.Tie as tie
 
 is-due-requires : tie.Need-is-due-requires
 is-due-requires c κs = search needs
@@ -16,5 +16,5 @@ returns c = simp (sym (c .before .before .is-due .ensures) ∙ c .before .if1 .t
 returns-2 : tie.Need-returns-2
 returns-2 c = search needs
 
-pub command-line-spec : {M : Type 1} → statement M
-command-line-spec = tie.close (tie.spec is-due-requires frame-requires returns returns-2)
+pub due-line-spec : {M : Type 1} → statement M
+due-line-spec = tie.close (tie.spec is-due-requires frame-requires returns returns-2)

@@ -1,9 +1,9 @@
--- `channel_registers::function_active` meets its contract: D0 to FC, and not armed and idle. Assumes nothing.
+-- `channel_registers::cannot_send` meets its contract: D0 to FC, and not armed and idle. Assumes nothing.
 use mathlib.Core.Path.{sym, _∙_}
 use borrow.Author.Tests.{eq-eqb, ne-eqb, not-true, not-false}
 use borrow.Author.Needs.{needs}
-use Rattle.channel_registers.proofs.function_active.Statement.{statement}
-use Rattle.channel_registers.proofs.function_active.Tie as tie
+use Rattle.channel_registers.proofs.cannot_send.Statement.{statement}
+use Rattle.channel_registers.proofs.cannot_send.Tie as tie
 
 returns : tie.Need-returns
 returns c = simp (ne-eqb _ _ (c .if1 .taken))
@@ -32,6 +32,6 @@ returns-4 c =
     let s = c .before .before in
     simp (eq-eqb _ _ (s .before .before .if1 .left), sym (s .before .is-set .ensures) ∙ not-false _ (s .if2 .left), c .if3 .left)
 
-pub function-active-spec : {M : Type 1} → statement M
-function-active-spec =
+pub cannot-send-spec : {M : Type 1} → statement M
+cannot-send-spec =
     tie.close (tie.spec returns is-set-requires returns-2 is-idle-requires returns-3 returns-4)

@@ -1,0 +1,81 @@
+-- What a call that is not refused answers is no refusal. Assumes nothing.
+use Prim.Native.Nat.{ℕ, _*_}
+use mathlib.Core.Path.{_≡_, refl, sym, _∙_}
+use mathlib.Core.Bool.{Bool, true, false, cond}
+use native.Mathlib.Omega.{arith}
+use lib.Dec.{eqb}
+use borrow.Author.Tests.{eqb-true, eq-eqb}
+use Rattle.frame.specs.Frames.{framed, idOf, dataOf, auxOf, crcIn, read}
+use Rattle.frame.specs.Frames as frame
+use Rattle.sequencer.specs.declared.Transmission.{Transmission}
+use Rattle.sequencer.specs.declared.Transmission.the-variants as transmission
+use Rattle.readback.specs.declared.Disposition.{Disposition}
+use Rattle.readback.specs.declared.Disposition.the-variants as disposition
+use Rattle.command_frames.specs.declared.CommandFrames.{CommandFrames}
+use Rattle.command_frames.specs.Commanding.{isDue, takes}
+use Rattle.channel_core.specs.declared.Channel.{Channel}
+use Rattle.channel_core.specs.Answers.{Answer, isRefusal}
+use Rattle.channel_core.specs.Answers as ans
+use Rattle.channel_core.specs.Behaviour.{tickLine, playedOf, tickAnswer}
+use Rattle.channel_replies.specs.Replying.{dispositionNow, receiptAnswer, replyAnswerAs, replyAnswer}
+use Rattle.channel.specs.OneChannel.{Query, ChannelCall, OneChannel, then, lengthRefusal, framingRefusal, refusalOf, queryAnswer, mainAnswer, answer}
+use Rattle.channel.specs.OneChannel as call
+use Rattle.channel.proofs.Cases.{clash, either}
+
+abbrev pub NoRefusal : Answer → Type 0
+NoRefusal a = isRefusal a ≡ false
+
+-- two refusals, one after the other: passed, neither applied
+pub then-passed : (first second : ℕ) → then first second ≡ 0 → (first ≡ 0) × (second ≡ 0)
+then-passed first second = go (eqb first 0) refl
+  where
+    go : (b : Bool) → eqb first 0 ≡ b → cond b second first ≡ 0 → (first ≡ 0) × (second ≡ 0)
+    go true e f = (eqb-true first 0 e, f)
+    go false e f = clash (sym e ∙ eq-eqb first 0 f)
+
+disposition-accepted : (d : Disposition) → NoRefusal (receiptAnswer d)
+disposition-accepted disposition.Unsolicited = refl
+disposition-accepted disposition.Lost = refl
+disposition-accepted disposition.Kept = refl
+
+-- a well-framed reply
+pub received-accepted : (c : Channel) (m : ℕ) → NoRefusal (cond (takes (c .commands)) ans.kept (receiptAnswer (dispositionNow c m)))
+received-accepted c m = either NoRefusal (takes (c .commands)) refl (disposition-accepted (dispositionNow c m))
+
+reply-accepted : (c : Channel) (m f : ℕ) → framingRefusal (read f) ≡ 0 → NoRefusal (replyAnswer c m f)
+unfolding read replyAnswer
+reply-accepted c m f = go (framed f)
+  where
+    go : (b : Bool) → framingRefusal (cond b (frame.fields (idOf f) (dataOf f) (auxOf f) (crcIn f)) (frame.refused 7)) ≡ 0
+        → NoRefusal (replyAnswerAs (cond b (frame.fields (idOf f) (dataOf f) (auxOf f) (crcIn f)) (frame.refused 7)) c m)
+    go true e = received-accepted c m
+    go false e = absurd (omega arith)
+
+pub line-accepted : (id : ℕ) (f : CommandFrames) (x : Transmission) → NoRefusal (tickLine id f x)
+line-accepted id f transmission.Nothing = either NoRefusal (isDue (f .waiting)) refl refl
+line-accepted id f (transmission.Word word k) = refl
+
+pub main-accepted : (c : Channel) (offset : ℕ) → NoRefusal (mainAnswer c offset)
+main-accepted c offset = either NoRefusal (eqb offset 0x28) refl (either NoRefusal (eqb offset 0x2a) refl refl)
+
+query-accepted : (o : OneChannel) (which : Query) → NoRefusal (queryAnswer o which)
+query-accepted o call.retired = refl
+query-accepted o call.retiredLength = refl
+
+pub accepted-answer : (o : OneChannel) (k : ChannelCall) → eqb (refusalOf o k) 0 ≡ true → NoRefusal (answer o k)
+unfolding refusalOf answer tickAnswer
+accepted-answer o (call.writeRegister lent offset value) e = refl
+accepted-answer o (call.readRegister offset) e = refl
+accepted-answer o (call.writeSetpoint lent user buffer index word) e = refl
+accepted-answer o call.arm e = refl
+accepted-answer o call.disarm e = refl
+accepted-answer o (call.reply lent f) e =
+    reply-accepted (o .channel) (o .m) f
+    (then-passed (lengthRefusal lent (o .m * 8)) (framingRefusal (read f)) (eqb-true (refusalOf o (call.reply lent f)) 0 e) .1)
+accepted-answer o (call.query which one two) e = query-accepted o which
+accepted-answer o (call.tick lent) e =
+    line-accepted (o .channel .registers .id) (o .channel .commands) (playedOf (o .channel) (o .setpoints) (o .n) (o .user) .transmission)
+accepted-answer o (call.event lent code) e = refl
+accepted-answer o (call.changeUser user) e = refl
+accepted-answer o (call.writeMain lent offset value) e = refl
+accepted-answer o (call.readMain offset) e = main-accepted (o .channel) offset
