@@ -1,16 +1,18 @@
 -- Quiet ticks, of any state, words, depths and periods: each only counts down, and transmits nothing. Assumes nothing.
-use Prim.Native.Nat.{ℕ, suc, _-_, _≤_, _<_, min}
-use mathlib.Core.Path.{_≡_, refl, ap, _∙_}
+use Prim.Native.Nat.{ℕ, zero, suc, _-_, _≤_, _<_, min}
+use mathlib.Core.Path.{_≡_, refl, sym, ap, _∙_}
 use mathlib.Core.Bool.{Bool, true, false, cond}
 use native.Mathlib.Omega.{arith}
 use native.Mathlib.Nat.{sub-zero}
-use lib.Dec.{leb}
-use borrow.Author.Tests.{le-leb, lt-leb, leb-true}
-use Rattle.sequencer.specs.Playing.{ticked, tickedAt, advancing, repeating, resuming, quiet, withLeft, withResume}
+use lib.Dec.{eqb, leb}
+use borrow.Author.Tests.{le-leb, lt-leb, leb-true, leb-false, eqb-true}
+use Rattle.sequencer.specs.Playing.{ticked, tickedAt, sentAs, sentNext, repeated, advancing, repeating, resuming, quiet, withLeft, withResume}
 use Rattle.channel_ticks.specs.Quiet.{quietAt, quietTicks, afterQuietAt, afterQuiet}
 use Rattle.sequencer.specs.declared.Stage.{Stage}
 use Rattle.sequencer.specs.declared.Stage.the-variants as stage
 use Rattle.sequencer.specs.declared.Sequencer.{Sequencer}
+use Rattle.sequencer.specs.declared.Ticked.{Ticked}
+use Rattle.channel_core.specs.Behaviour.{isSetpoint}
 
 module _ (s : Sequencer) (due n p : ℕ) where
   -- a countdown that is 2 or more goes down by 1
@@ -91,3 +93,44 @@ none-at stage.Ended s = simp sub-zero
 pub quiet-none : (s : Sequencer) → afterQuiet s 0 ≡ s
 unfolding afterQuiet
 quiet-none s = none-at (s .stage) s
+
+-- ---- The next tick sends exactly where none is quiet
+
+ne-some : (k : ℕ) → eqb k 0 ≡ false → 0 < k
+ne-some zero e = let z : _≡_ {A = ℕ} 0 1 = cc in absurd (omega arith)
+ne-some (suc k) e = omega arith
+
+module _ (s : Sequencer) (due n p : ℕ) where
+  advance-sends : s .left - 1 ≡ 0 → isSetpoint (advancing s due n p .transmission) ≡ true
+  unfolding advancing sentNext sentAs
+  advance-sends h = rw (le-leb (s .left) 1 (omega arith))
+
+  repeat-sends : (r : ℕ) → s .left - 1 ≡ 0 → isSetpoint (repeating (withResume s r) p .transmission) ≡ true
+  unfolding repeating repeated
+  repeat-sends r h = rw (le-leb (s .left) 1 (omega arith))
+
+  resume-sends : (b : Bool) → leb (s .resume) 10 ≡ b → cond b (s .resume - 1) (min (s .left - 1) (s .resume - 10)) ≡ 0
+      → isSetpoint (resuming s due n p .transmission) ≡ true
+  unfolding resuming sentNext sentAs
+  resume-sends true e h = let f = leb-true (s .resume) 10 e in rw (le-leb (s .resume) 1 (omega arith))
+  resume-sends false e h =
+      let f = leb-false (s .resume) 10 e in
+      rw (lt-leb (s .resume) 1 (omega arith), e) (repeat-sends (s .resume - 1) (omega arith))
+
+  sends-at : (g : Stage) → s .stage ≡ g → quietAt g s ≡ 0 → isSetpoint (tickedAt g s due n p .transmission) ≡ true
+  sends-at stage.Idle e h = absurd (omega arith)
+  sends-at stage.Starting e h = advance-sends h
+  sends-at stage.Running e h = advance-sends h
+  sends-at (stage.Paused k) e h = repeat-sends (s .resume) h
+  sends-at stage.Resuming e h = resume-sends (leb (s .resume) 10) refl h
+  sends-at stage.Ended e h = repeat-sends (s .resume) h
+
+  pub sends-next : eqb (quietTicks s) 0 ≡ isSetpoint (ticked s due n p .transmission)
+  unfolding quietTicks ticked
+  sends-next = go (eqb (quietTicks s) 0) refl
+    where
+      go : (b : Bool) → eqb (quietTicks s) 0 ≡ b → b ≡ isSetpoint (ticked s due n p .transmission)
+      go true e = sym (sends-at (s .stage) refl (eqb-true (quietTicks s) 0 e))
+      go false e =
+          let some : 0 < quietTicks s = ne-some (quietTicks s) e in
+          sym (ap (λ (x : Ticked). isSetpoint (x .transmission)) (ap (λ (q : Sequencer). ticked q due n p) (sym (quiet-none s)) ∙ quiet-next s due n p 0 some))

@@ -1,13 +1,14 @@
 -- Ticks in a row of a channel, of any memory, depth and user: a quiet tick only counts down and answers no frame, and so do as many as are quiet.
 -- Assumes nothing.
-use Prim.Native.Nat.{ℕ, zero, suc, _+_, _-_, _≤_, _<_, min}
-use mathlib.Core.Path.{_≡_, refl, sym, ap, subst, _∙_}
-use mathlib.Core.Bool.{Bool, true, false, cond}
+use Prim.Native.Nat.{ℕ, zero, suc, _+_, _-_, _≤_, _<_}
+use mathlib.Core.Path.{_≡_, refl, sym, ap, _∙_}
+use mathlib.Core.Bool.{Bool, true, false, cond, _&&_, and-false, and-eq-true-iff}
 use mathlib.Core.List.{List, []}
 use native.Mathlib.Omega.{arith}
-use native.Mathlib.Nat.{zero-add, add-zero, add-suc}
+use native.Mathlib.Nat.{zero-add, add-zero, add-suc, add-assoc}
 use native.Mathlib.Numerals.{add-one}
-use lib.ListN.{getD}
+use lib.ListN.{getD, set}
+use borrow.Author.Tests.{lt-ltb, not-true}
 use Rattle.status.specs.declared.Status.{Status}
 use Rattle.status.specs.Bits.{bitOf}
 use Rattle.registers.specs.Map.{periodOf, secondActive}
@@ -22,12 +23,13 @@ use Rattle.channel_core.specs.Answers.{Answer, isFrame}
 use Rattle.channel_core.specs.Answers as ans
 use Rattle.channel_core.specs.State.{withStatus, withSequencer, withCommands}
 use Rattle.channel_core.specs.Behaviour.{setpointPlace, dueOf, playedOf, sendStatus, isSetpoint, sendFrame, tickLine, tickOf, tickAnswer}
-use Rattle.command_frames.specs.Commanding.{isDue, withReceiving}
+use Rattle.command_frames.specs.declared.CommandFrames.{CommandFrames}
+use Rattle.command_frames.specs.Commanding.{isDue, withReceiving, commandFrame}
 use Rattle.command_frames.specs.Commanding as cmd
 use Rattle.command_frames.proofs.Laws.{ticked-idle, ticked-due}
 use Rattle.channel_core.proofs.Laws.{line-none}
 use Rattle.channel_ticks.specs.Quiet.{quietTicks, channelQuietTicks, afterQuiet}
-use Rattle.channel_ticks.specs.Ticks.{ticksOf, framesIn, framesAt, withFrame, firstTicks}
+use Rattle.channel_ticks.specs.Ticks.{ticksOf, framesIn, framesAt, withFrame, sendsNext, commandFirst, commandLeaves, commandFramesFirst, withCommandFrame, receivingAfter}
 use Rattle.channel_ticks.proofs.QuietTicks as sequencer
 
 -- a channel after k quiet ticks: its sequencer's countdowns lowered
@@ -37,6 +39,13 @@ waited c k = withSequencer c (afterQuiet (c .sequencer) k)
 -- no command frame leaves on the next tick
 abbrev pub NoneDue : Channel → Type 0
 NoneDue c = isDue (c .commands .waiting) ≡ false
+
+-- Replies go to E4–FA until a setpoint leaves.
+pub receiving-next : (on : Bool) (f f' : ℕ) (x : Transmission) → f' ≡ f + asNumber x
+    → receivingAfter on f' ≡ cond (isSetpoint x) false (receivingAfter on f)
+receiving-next on f f' transmission.Nothing e =
+    let same : f' ≡ f = omega arith in ap (receivingAfter on) same
+receiving-next on f f' (transmission.Word word k) e = rw (lt-ltb 0 f' (omega arith))
 
 module _ (s : List ℕ) (n user : ℕ) where
   -- After k quiet ticks, one more is quiet too: it answers no frame and gives the channel after k + 1 of them.
@@ -112,85 +121,161 @@ module _ (s : List ℕ) (n user : ℕ) where
         go true h = omega arith
         go false h = omega arith
 
-  -- Of so many ticks, the tick of a command frame that is due.
-  pub commands-few : (c : Channel) (count : ℕ) → firstTicks c count ≤ count
-  commands-few c count = go (isDue (c .commands .waiting))
-    where
-      go : (due : Bool) → cond due (min count 1) 0 ≤ count
-      go true = omega arith
-      go false = omega arith
-
-  -- None is due after it, if there is a tick to come.
-  pub after-command-none : (c : Channel) (count : ℕ) → firstTicks c count < count → NoneDue (ticksOf c s n user (firstTicks c count))
-  unfolding ticksOf tickOf
-  after-command-none c count = go (isDue (c .commands .waiting)) refl count
-    where
-      go : (due : Bool) → isDue (c .commands .waiting) ≡ due → (k : ℕ) → cond due (min k 1) 0 < k
-          → NoneDue (ticksOf c s n user (cond due (min k 1) 0))
-      go true e zero h = absurd (omega arith)
-      go true e (suc k) h =
-          let m : min (suc k) 1 ≡ 1 = omega arith in
-          rw m (ticked-due (c .commands) (isSetpoint (playedOf c s n user .transmission)))
-      go false e k h = e
-
-  -- What the ticks after that change of a channel: its status, its sequencer, and whether replies go to E4–FA.
+  -- What ticks with no command frame due change of a channel: its status, its sequencer, and whether replies go to E4–FA.
   abbrev pub moved : Channel → Status → Sequencer → Bool → Channel
   moved c st q on = withCommands (withSequencer (withStatus c st) q) (withReceiving (c .commands) on)
 
-  -- The same of what the loop over them holds, `b` being the channel before it: status, sequencer, frames so far, and the list.
-  abbrev pub Held : Channel → Channel → List ℕ → ℕ → Status → Sequencer → Bool → ℕ → List ℕ → Type 0
-  Held c b l k st q on f m = After c l k (moved b st q on) f m
+  -- The same after k ticks, of what the loop over them holds: status, sequencer, frames so far, and the list.
+  abbrev pub Held : Channel → List ℕ → ℕ → Status → Sequencer → ℕ → List ℕ → Type 0
+  Held c l k st q f m = After c l k (moved c st q (receivingAfter (c .commands .receiving) f)) f m
 
-  -- before it: after the tick of a command frame that was due, if one was
-  pub held-begun : (c b : Channel) (l : List ℕ) (count : ℕ) {k f f' : ℕ} {st : Status} {q : Sequencer} {on : Bool} {m : List ℕ}
-      → k ≡ firstTicks c count → b ≡ ticksOf c s n user (firstTicks c count) → f' ≡ framesIn c s n user (firstTicks c count)
-      → m ≡ framesAt c s n user (firstTicks c count) l
-      → st ≡ b .status → q ≡ b .sequencer → on ≡ b .commands .receiving → f ≡ f' → Held c b l k st q on f m
-  held-begun c b l count x y z w st q on f =
-      rw (x, st, q, on, f) (record { channel-is = sym y; frames-are = sym z; captured-is = sym w })
-
-  -- as many as were asked for
-  pub after-all : {c d : Channel} {l : List ℕ} {k f : ℕ} {m : List ℕ} (j : ℕ) → After c l k d f m → k ≡ j → After c l j d f m
-  after-all {c} {d} {l} {k} {f} {m} j x e = subst (λ (i : ℕ). After c l i d f m) e x
+  pub held-none : (c : Channel) (l : List ℕ) → Held c l 0 (c .status) (c .sequencer) 0 l
+  held-none c l = after-none c l
 
   pub after-few : {c d : Channel} {l : List ℕ} {k f : ℕ} {m : List ℕ} → After c l k d f m → f ≤ k
   after-few {c} {d} {l} {k} x = omega (arith, x .frames-are, frames-few c k)
 
+  pub held-few : {c : Channel} {l : List ℕ} {k : ℕ} {st : Status} {q : Sequencer} {f : ℕ} {m : List ℕ} → Held c l k st q f m → f ≤ k
+  held-few x = after-few x
+
   -- j quiet ones more
-  pub held-quiet : (c b : Channel) (l : List ℕ) (k j : ℕ) {st st' : Status} {q q' : Sequencer} {on on' : Bool} {f f' : ℕ} {m : List ℕ}
-      → Held c b l k st q on f m → NoneDue b → j ≤ quietTicks q → st' ≡ st → q' ≡ afterQuiet q j → on' ≡ on → f' ≡ f
-      → Held c b l (k + j) st' q' on' f' m
-  held-quiet c b l k j x none h a d i g = rw (a, d, i, g) (after-quiet c l k x none j h)
+  pub held-quiet : (c : Channel) (l : List ℕ) (k j : ℕ) {st st' : Status} {q q' : Sequencer} {f f' : ℕ} {m : List ℕ}
+      → Held c l k st q f m → NoneDue c → j ≤ quietTicks q → st' ≡ st → q' ≡ afterQuiet q j → f' ≡ f → Held c l (k + j) st' q' f' m
+  held-quiet c l k j x none h a b g = rw (a, b, g) (after-quiet c l k x none j h)
 
   number : (id : ℕ) (x : Transmission) → cond (isFrame (sendFrame id x)) 1 0 ≡ asNumber x
   number id transmission.Nothing = refl
   number id (transmission.Word word k) = refl
 
   -- one more, whatever it sends
-  pub held-tick : (c b : Channel) (l : List ℕ) (k : ℕ) {st st' : Status} {q q' : Sequencer} {on on' : Bool} {f f' : ℕ} {m m' : List ℕ} (due p id : ℕ)
-      → Held c b l k st q on f m
-      → NoneDue b
-      → due ≡ getD s (setpointPlace (user - 1) (bitOf (secondActive (b .registers) (user - 1))) n (q .index)) 0
-      → p ≡ periodOf (b .registers .clock)
-      → id ≡ b .registers .id
+  pub held-tick : (c : Channel) (l : List ℕ) (k : ℕ) {st st' : Status} {q q' : Sequencer} {f f' : ℕ} {m m' : List ℕ} (due p id : ℕ)
+      → Held c l k st q f m
+      → NoneDue c
+      → due ≡ getD s (setpointPlace (user - 1) (bitOf (secondActive (c .registers) (user - 1))) n (q .index)) 0
+      → p ≡ periodOf (c .registers .clock)
+      → id ≡ c .registers .id
       → st' ≡ sendStatus st (ticked q due n p .transmission)
       → q' ≡ ticked q due n p .sequencer
-      → on' ≡ cond (isSetpoint (ticked q due n p .transmission)) false on
       → f' ≡ f + asNumber (ticked q due n p .transmission)
       → m' ≡ withFrame (sendFrame id (ticked q due n p .transmission)) k m
-      → Held c b l (k + 1) st' q' on' f' m'
+      → Held c l (k + 1) st' q' f' m'
   unfolding tickOf tickAnswer dueOf
-  held-tick c b l k {st} {st'} {q} {q'} {on} {on'} {f} {f'} {m} {m'} due p id x none d e i a j r g h =
-      let v : ticked q due n p ≡ playedOf (moved b st q on) s n user = simp (d, e) in
+  held-tick c l k {st} {st'} {q} {q'} {f} {f'} {m} {m'} due p id x none d e i a b g h =
+      let on = receivingAfter (c .commands .receiving) f in
+      let v : ticked q due n p ≡ playedOf (moved c st q on) s n user = simp (d, e) in
       let sent = ticked q due n p .transmission in
-      let w = withReceiving (b .commands) on in
-      let y = after-next c l k {e = moved b st' q' on'} {a = sendFrame (b .registers .id) sent} x
+      let w = withReceiving (c .commands) on in
+      let r = receiving-next (c .commands .receiving) f f' sent g in
+      let y = after-next c l k {e = moved c st' q' (receivingAfter (c .commands .receiving) f')} {a = sendFrame (c .registers .id) sent} x
       (ap
       (λ (z : t.Ticked).
-      withCommands (withSequencer (withStatus b (sendStatus st (z .transmission))) (z .sequencer)) (cmd.ticked w (isSetpoint (z .transmission))))
+      withCommands (withSequencer (withStatus c (sendStatus st (z .transmission))) (z .sequencer)) (cmd.ticked w (isSetpoint (z .transmission))))
       (sym v)
-      ∙ simp (ticked-idle w (isSetpoint sent) none, a, j, r))
-      (ap (λ (z : t.Ticked). tickLine (b .registers .id) w (z .transmission)) (sym v) ∙ line-none (b .registers .id) w none sent) in
-      let f-is : f' ≡ f + cond (isFrame (sendFrame (b .registers .id) sent)) 1 0 = g ∙ ap (λ (z : ℕ). f + z) (sym (number (b .registers .id) sent)) in
-      let m-is : m' ≡ withFrame (sendFrame (b .registers .id) sent) k m = rw i at h in
-      rw (add-one, f-is, m-is) y
+      ∙ simp (ticked-idle w (isSetpoint sent) none, a, b, r))
+      (ap (λ (z : t.Ticked). tickLine (c .registers .id) w (z .transmission)) (sym v) ∙ line-none (c .registers .id) w none sent) in
+      let f-is : f' ≡ f + cond (isFrame (sendFrame (c .registers .id) sent)) 1 0 = g ∙ ap (λ (z : ℕ). f + z) (sym (number (c .registers .id) sent)) in
+      let m-is : m' ≡ withFrame (sendFrame (c .registers .id) sent) k m = rw i at h in
+      rw add-one (record { channel-is = y .channel-is; frames-are = y .frames-are ∙ sym f-is; captured-is = y .captured-is ∙ sym m-is })
+
+  -- ---- With a command frame due
+
+  -- The next tick comes to the same, its share of the command frames done first; it answers the command frame where that leaves, else as then.
+  module _ (c : Channel) where
+    sends-next : sendsNext c ≡ isSetpoint (playedOf c s n user .transmission)
+    sends-next = sequencer.sends-next (c .sequencer) (dueOf c s n user) n (periodOf (c .registers .clock))
+
+    twice : (f : CommandFrames) (on : Bool) → cmd.ticked (cmd.ticked f on) on ≡ cmd.ticked f on
+    unfolding cmd.ticked
+    twice f on = ticked-idle (cmd.ticked f on) on (ticked-due f on) ∙ go on
+      where
+        go : (b : Bool) → withReceiving (cmd.ticked f b) (cond b false (cmd.ticked f b .receiving)) ≡ cmd.ticked f b
+        go true = refl
+        go false = refl
+
+    -- none is due then
+    pub first-none : NoneDue (commandFirst c)
+    first-none = go (isDue (c .commands .waiting)) refl
+      where
+        go : (b : Bool) → isDue (c .commands .waiting) ≡ b → NoneDue (cond b (withCommands c (cmd.ticked (c .commands) (sendsNext c))) c)
+        go true e = ticked-due (c .commands) (sendsNext c)
+        go false e = e
+
+    pub command-first : tickOf (commandFirst c) s n user ≡ tickOf c s n user
+    unfolding tickOf dueOf
+    command-first = go (isDue (c .commands .waiting))
+      where
+        x : t.Ticked
+        x = playedOf c s n user
+
+        d : Channel
+        d = withSequencer (withStatus c (sendStatus (c .status) (x .transmission))) (x .sequencer)
+
+        go : (b : Bool) → tickOf (cond b (withCommands c (cmd.ticked (c .commands) (sendsNext c))) c) s n user ≡ tickOf c s n user
+        go true =
+            ap (λ (e : Bool). withCommands d (cmd.ticked (cmd.ticked (c .commands) e) (isSetpoint (x .transmission)))) sends-next
+            ∙ ap (withCommands d) (twice (c .commands) (isSetpoint (x .transmission)))
+        go false = refl
+
+    -- what the rest of the tick answers
+    first-answer : tickAnswer (commandFirst c) s n user ≡ sendFrame (c .registers .id) (playedOf c s n user .transmission)
+    unfolding tickAnswer dueOf
+    first-answer = go (isDue (c .commands .waiting)) refl
+      where
+        go : (b : Bool) → isDue (c .commands .waiting) ≡ b
+            → tickAnswer (cond b (withCommands c (cmd.ticked (c .commands) (sendsNext c))) c) s n user
+            ≡ sendFrame (c .registers .id) (playedOf c s n user .transmission)
+        go true e =
+            line-none (c .registers .id) (cmd.ticked (c .commands) (sendsNext c)) (ticked-due (c .commands) (sendsNext c)) (playedOf c s n user .transmission)
+        go false e = line-none (c .registers .id) (c .commands) e (playedOf c s n user .transmission)
+
+    pub command-answer : tickAnswer c s n user ≡ cond (commandLeaves c) (ans.frame (commandFrame (c .commands))) (tickAnswer (commandFirst c) s n user)
+    unfolding tickAnswer
+    command-answer =
+        go (playedOf c s n user .transmission) sends-next
+        ∙ ap (λ (a : Answer). cond (commandLeaves c) (ans.frame (commandFrame (c .commands))) a) (sym first-answer)
+      where
+        nothing : (b : Bool) → cond b (ans.frame (commandFrame (c .commands))) ans.none ≡ cond (b && true) (ans.frame (commandFrame (c .commands))) ans.none
+        nothing true = refl
+        nothing false = refl
+
+        go : (x : Transmission) → sendsNext c ≡ isSetpoint x
+            → tickLine (c .registers .id) (c .commands) x
+            ≡ cond (commandLeaves c) (ans.frame (commandFrame (c .commands))) (sendFrame (c .registers .id) x)
+        go transmission.Nothing e = rw e (nothing (isDue (c .commands .waiting)))
+        go (transmission.Word word k) e = rw (e, and-false)
+
+    -- where the command frame leaves, the rest of the tick answers none
+    silent-first : commandLeaves c ≡ true → tickAnswer (commandFirst c) s n user ≡ ans.none
+    silent-first e =
+        first-answer
+        ∙ go (playedOf c s n user .transmission) (sym sends-next ∙ not-true (sendsNext c) (and-eq-true-iff (isDue (c .commands .waiting)) _ .0 e .1))
+      where
+        go : (x : Transmission) → isSetpoint x ≡ false → sendFrame (c .registers .id) x ≡ ans.none
+        go transmission.Nothing d = refl
+        go (transmission.Word word k) d = let z : _≡_ {A = ℕ} 0 1 = cc in absurd (omega arith)
+
+    first-frames : (b : Bool) → commandLeaves c ≡ b
+        → (cond (isFrame (cond b (ans.frame (commandFrame (c .commands))) (tickAnswer (commandFirst c) s n user))) 1 0
+        ≡ cond b 1 0 + cond (isFrame (tickAnswer (commandFirst c) s n user)) 1 0)
+        × ((l : List ℕ)
+        → withFrame (cond b (ans.frame (commandFrame (c .commands))) (tickAnswer (commandFirst c) s n user)) 0 l
+        ≡ withFrame (tickAnswer (commandFirst c) s n user) 0 (cond b (set l 0 (commandFrame (c .commands))) l))
+    first-frames true e = (rw (silent-first e), λ l. rw (silent-first e))
+    first-frames false e = (sym (zero-add _), λ l. refl)
+
+    -- Ticks in a row come to the same too, with the command frame beside theirs.
+    pub after-command : (l : List ℕ) (k : ℕ)
+        → After c l (suc k) (ticksOf (commandFirst c) s n user (suc k)) (commandFramesFirst c + framesIn (commandFirst c) s n user (suc k))
+        (framesAt (commandFirst c) s n user (suc k) (withCommandFrame c l))
+    unfolding ticksOf framesIn framesAt
+    after-command l zero =
+        let x = after-next c l 0 (after-none c l) (sym command-first) command-answer in
+        let f = first-frames (commandLeaves c) refl in
+        record {
+          channel-is = x .channel-is;
+          frames-are = x .frames-are ∙ rw (zero-add, zero-add) (f .0);
+          captured-is = x .captured-is ∙ f .1 l;
+        }
+    after-command l (suc k) =
+        let x = after-next c l (suc k) (after-command l k) refl refl in
+        record { channel-is = x .channel-is; frames-are = x .frames-are ∙ add-assoc _ _ _; captured-is = x .captured-is }

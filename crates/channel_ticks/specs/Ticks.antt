@@ -1,14 +1,18 @@
 -- Document 01, 'A channel's life': ticks in a row of a channel by itself, nothing else happening meanwhile: the channel after them, and the
 -- frames that they answer.
-use Prim.Native.Nat.{ℕ, zero, suc, _+_, min}
-use mathlib.Core.Bool.{cond}
+use Prim.Native.Nat.{ℕ, zero, suc, _+_}
+use mathlib.Core.Bool.{Bool, false, cond, not, _&&_}
 use mathlib.Core.List.{List}
 use lib.ListN.{set}
-use Rattle.command_frames.specs.Commanding.{isDue}
+use lib.Dec.{eqb, ltb}
+use Rattle.command_frames.specs.Commanding.{isDue, commandFrame}
+use Rattle.command_frames.specs.Commanding as cmd
 use Rattle.channel_core.specs.declared.Channel.{Channel}
 use Rattle.channel_core.specs.Answers.{Answer, isFrame}
 use Rattle.channel_core.specs.Answers as ans
+use Rattle.channel_core.specs.State.{withCommands}
 use Rattle.channel_core.specs.Behaviour.{tickOf, tickAnswer}
+use Rattle.channel_ticks.specs.Quiet.{quietTicks}
 
 -- the channel after k ticks
 unfoldable pub ticksOf : Channel → List ℕ → ℕ → ℕ → ℕ → Channel
@@ -39,6 +43,27 @@ unfoldable pub framesAt : Channel → List ℕ → ℕ → ℕ → ℕ → List 
 framesAt c s n user zero l = l
 framesAt c s n user (suc k) l = withFrame (answerAfter c s n user k) k (framesAt c s n user k l)
 
--- of so many ticks, those that come first where a command frame is due: one, if there is one
-abbrev pub firstTicks : Channel → ℕ → ℕ
-firstTicks c count = cond (isDue (c .commands .waiting)) (min count 1) 0
+-- ---- A command frame, before the ticks in a row
+
+-- whether the next tick sends a setpoint: it does exactly where none of the next ticks only counts down (`sends-next` of proofs/QuietTicks)
+abbrev pub sendsNext : Channel → Bool
+sendsNext c = eqb (quietTicks (c .sequencer)) 0
+
+-- the next tick's share of the command frames done, before the rest of it, where one is due (`command-first` of proofs/TicksInRow: the tick then comes
+-- to the same)
+abbrev pub commandFirst : Channel → Channel
+commandFirst c = cond (isDue (c .commands .waiting)) (withCommands c (cmd.ticked (c .commands) (sendsNext c))) c
+
+-- a command frame leaves on the next tick
+abbrev pub commandLeaves : Channel → Bool
+commandLeaves c = isDue (c .commands .waiting) && not (sendsNext c)
+
+abbrev pub commandFramesFirst : Channel → ℕ
+commandFramesFirst c = cond (commandLeaves c) 1 0
+
+abbrev pub withCommandFrame : Channel → List ℕ → List ℕ
+withCommandFrame c l = cond (commandLeaves c) (set l 0 (commandFrame (c .commands))) l
+
+-- whether replies go to E4–FA after ticks with no command frame due: a setpoint ends it, and then there are frames
+abbrev pub receivingAfter : Bool → ℕ → Bool
+receivingAfter receiving frames = cond (ltb 0 frames) false receiving

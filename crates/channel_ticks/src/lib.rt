@@ -2,7 +2,6 @@
 pub mod quiet;
 
 use channel_core::Channel;
-use channel_core::Line;
 use channel_core::send_status;
 use channel_core::setpoint_frame;
 use channel_core::setpoint_place;
@@ -17,13 +16,12 @@ ghost use lib.ListN.{set};
 ghost use Rattle.frame.specs.Frames.{encoded};
 ghost use Rattle.sequencer.specs.Playing.{ticked};
 ghost use Rattle.sequencer.specs.Runs.{asNumber};
-ghost use mathlib.Core.Bool.{cond, false};
-ghost use Rattle.command_frames.specs.Commanding.{withReceiving};
-ghost use Rattle.channel_core.specs.Answers.{isFrame, lineOf};
+ghost use mathlib.Core.Bool.{false};
+ghost use Rattle.command_frames.specs.Commanding.{isDue, withReceiving};
 ghost use Rattle.channel_core.specs.State.{withStatus, withSequencer, withCommands};
-ghost use Rattle.channel_core.specs.Behaviour.{sendStatus, isSetpoint, sendFrame};
+ghost use Rattle.channel_core.specs.Behaviour.{sendStatus, sendFrame};
 ghost use Rattle.channel_ticks.specs.Quiet.{afterQuiet};
-ghost use Rattle.channel_ticks.specs.Ticks.{ticksOf, framesIn, withFrame, framesAt, firstTicks};
+ghost use Rattle.channel_ticks.specs.Ticks.{ticksOf, framesIn, withFrame, framesAt, commandFirst, commandFramesFirst, withCommandFrame, receivingAfter};
 
 // A channel after ticks in a row, and how many of them answered a frame.
 pub struct Advanced {
@@ -31,64 +29,53 @@ pub struct Advanced {
     pub frames: u32,
 }
 
-// A channel after the tick of a command frame that was due, if one was: so many ticks, and so many frames.
+// A channel of whose next tick the command frame's share is done, and the frames that it sent: none or one.
 struct Begun {
     pub channel: Channel,
-    pub ticks: u32,
     pub frames: u32,
 }
 
-// What the ticks after that change of a channel, and the frames so far. Command frames as a whole would slow the loop down.
+// What the rest of the ticks change of a channel, and their frames so far. Of its command frames they can only end the replies, which the frames tell: a
+// field more here would slow the loop down.
 struct Progress {
     pub status: Status,
     pub sequencer: Sequencer,
-    // Whether replies go to E4-FA.
-    pub receiving: bool,
     pub frames: u32,
 }
 
-// The frame of a line put at the first place, and how many it is.
-fn capture_line(captured: &mut [u64], line: Line) -> u32
-    ensures { λ r. ⌜ (r ≡ cond (isFrame (lineOf line)) 1 0) × (now (captured .exit) ≡ withFrame (lineOf line) 0 (now (captured .entry))) ⌝ }
+// A frame put at the first place, if there is one.
+fn capture_first(captured: &mut [u64], frame: u64)
+    ensures { λ _. ⌜ now (captured .exit) ≡ set (now (captured .entry)) 0 frame ⌝ }
 {
-    match line {
-        Line::Silent => 0,
-        Line::Frame(frame) => {
-            if 0 < captured.len() {
-                captured[0] = frame;
-            }
-            1
-        }
+    if 0 < captured.len() {
+        captured[0] = frame;
     }
 }
 
-// The tick of a command frame that is due, if one is: after it none is, however many ticks follow.
-fn command_tick(
-    c: Channel,
-    setpoints: &[u32],
-    n: u32,
-    user: u8,
-    count: u32,
-    captured: &mut [u64],
-) -> Begun
-    ensures { λ r. ⌜ (r .ticks ≡ firstTicks c count) × (r .channel ≡ ticksOf c (now (setpoints .entry)) n user (firstTicks c count)) × (r .frames ≡ framesIn c (now (setpoints .entry)) n user (firstTicks c count)) × (now (captured .exit) ≡ framesAt c (now (setpoints .entry)) n user (firstTicks c count) (now (captured .entry))) ⌝ }
+// The next tick's share of the command frames, before the rest of it, where one is due: it leaves, unless a setpoint does.
+fn command_first(c: Channel, captured: &mut [u64]) -> Begun
+    ensures { λ r. ⌜ (r .channel ≡ commandFirst c) × (r .frames ≡ commandFramesFirst c) × (now (captured .exit) ≡ withCommandFrame c (now (captured .entry))) ⌝ }
 {
     let commands = c.commands;
     if commands.is_due() {
-        if 0 < count {
-            let ticked = c.tick(setpoints, n, user);
-            let next = ticked.channel;
-            let line = ticked.line;
+        let sequencer = c.sequencer;
+        let sends = quiet::quiet_ticks(sequencer) == 0;
+        let mut next = c;
+        next.commands = commands.ticked(sends);
+        if sends {
             return Begun {
                 channel: next,
-                ticks: 1,
-                frames: capture_line(captured, line),
+                frames: 0,
             };
         }
+        capture_first(captured, commands.frame());
+        return Begun {
+            channel: next,
+            frames: 1,
+        };
     }
     Begun {
         channel: c,
-        ticks: 0,
         frames: 0,
     }
 }
@@ -113,7 +100,7 @@ fn tick(
     id: u8,
 ) -> Progress
     requires { ⌜ progress .frames < 4294967295 ⌝ }
-    ensures { λ r. ⌜ (r .status ≡ sendStatus (progress .status) (ticked (progress .sequencer) due n period .transmission)) × (r .sequencer ≡ ticked (progress .sequencer) due n period .sequencer) × (r .receiving ≡ cond (isSetpoint (ticked (progress .sequencer) due n period .transmission)) false (progress .receiving)) × (r .frames ≡ progress .frames + asNumber (ticked (progress .sequencer) due n period .transmission)) × (now (captured .exit) ≡ withFrame (sendFrame id (ticked (progress .sequencer) due n period .transmission)) at (now (captured .entry))) ⌝ }
+    ensures { λ r. ⌜ (r .status ≡ sendStatus (progress .status) (ticked (progress .sequencer) due n period .transmission)) × (r .sequencer ≡ ticked (progress .sequencer) due n period .sequencer) × (r .frames ≡ progress .frames + asNumber (ticked (progress .sequencer) due n period .transmission)) × (now (captured .exit) ≡ withFrame (sendFrame id (ticked (progress .sequencer) due n period .transmission)) at (now (captured .entry))) ⌝ }
 {
     let sequencer = progress.sequencer;
     let status = progress.status;
@@ -125,7 +112,6 @@ fn tick(
         Transmission::Nothing => Progress {
             status: latched,
             sequencer: next,
-            receiving: progress.receiving,
             frames: progress.frames,
         },
         Transmission::Word { word, condition: _ } => {
@@ -133,7 +119,6 @@ fn tick(
             Progress {
                 status: latched,
                 sequencer: next,
-                receiving: false,
                 frames: progress.frames + 1,
             }
         }
@@ -142,7 +127,7 @@ fn tick(
 
 // So many quiet ticks.
 fn skip(progress: Progress, count: u64) -> Progress
-    ensures { λ r. ⌜ (r .status ≡ progress .status) × (r .sequencer ≡ afterQuiet (progress .sequencer) count) × (r .receiving ≡ progress .receiving) × (r .frames ≡ progress .frames) ⌝ }
+    ensures { λ r. ⌜ (r .status ≡ progress .status) × (r .sequencer ≡ afterQuiet (progress .sequencer) count) × (r .frames ≡ progress .frames) ⌝ }
 {
     let sequencer = progress.sequencer;
     let mut next = progress;
@@ -150,30 +135,37 @@ fn skip(progress: Progress, count: u64) -> Progress
     next
 }
 
-// Before the first of the ticks after that.
-fn begin(begun: Begun) -> Progress
-    ensures { λ r. ⌜ (r .status ≡ begun .channel .status) × (r .sequencer ≡ begun .channel .sequencer) × (r .receiving ≡ begun .channel .commands .receiving) × (r .frames ≡ begun .frames) ⌝ }
+// A channel before the first of them.
+fn begin(c: Channel) -> Progress
+    ensures { λ r. ⌜ (r .status ≡ c .status) × (r .sequencer ≡ c .sequencer) × (r .frames ≡ 0) ⌝ }
 {
-    let c = begun.channel;
     let status = c.status;
     let sequencer = c.sequencer;
-    let commands = c.commands;
     Progress {
         status: status,
         sequencer: sequencer,
-        receiving: commands.receiving,
-        frames: begun.frames,
+        frames: 0,
     }
+}
+
+// Whether replies still go to E4-FA: no setpoint left, so there is no frame.
+fn receiving_after(receiving: bool, frames: u32) -> bool
+    ensures { λ r. ⌜ r ≡ receivingAfter receiving frames ⌝ }
+{
+    if 0 < frames {
+        return false;
+    }
+    receiving
 }
 
 // A channel after the last of them.
 fn finish(c: Channel, progress: Progress) -> Advanced
-    ensures { λ r. ⌜ (r .channel ≡ withCommands (withSequencer (withStatus c (progress .status)) (progress .sequencer)) (withReceiving (c .commands) (progress .receiving))) × (r .frames ≡ progress .frames) ⌝ }
+    ensures { λ r. ⌜ (r .channel ≡ withCommands (withSequencer (withStatus c (progress .status)) (progress .sequencer)) (withReceiving (c .commands) (receivingAfter (c .commands .receiving) (progress .frames)))) × (r .frames ≡ progress .frames) ⌝ }
 {
     let status = progress.status;
     let sequencer = progress.sequencer;
     let mut commands = c.commands;
-    commands.receiving = progress.receiving;
+    commands.receiving = receiving_after(commands.receiving, progress.frames);
     let mut next = c;
     next.status = status;
     next.sequencer = sequencer;
@@ -182,6 +174,40 @@ fn finish(c: Channel, progress: Progress) -> Advanced
         channel: next,
         frames: progress.frames,
     }
+}
+
+// So many ticks with no command frame due.
+fn setpoint_ticks(
+    c: Channel,
+    setpoints: &[u32],
+    n: u32,
+    user: u8,
+    count: u32,
+    captured: &mut [u64],
+) -> Advanced
+    requires { ⌜ isDue (c .commands .waiting) ≡ false ⌝ }
+    ensures { λ r. ⌜ (r .channel ≡ ticksOf c (now (setpoints .entry)) n user count) × (r .frames ≡ framesIn c (now (setpoints .entry)) n user count) × (now (captured .exit) ≡ framesAt c (now (setpoints .entry)) n user count (now (captured .entry))) ⌝ }
+{
+    let registers = c.registers;
+    let id = registers.id;
+    let at = registers::zero_based(user);
+    let second = registers.second_active(user);
+    let period = registers::period(registers.clock);
+    let mut progress = begin(c);
+    let mut done: u32 = 0;
+    while done < count {
+        let sequencer = progress.sequencer;
+        let quiet = least(quiet::quiet_ticks(sequencer), (count - done) as u64);
+        progress = skip(progress, quiet);
+        done += quiet as u32;
+        if done < count {
+            let ready = progress.sequencer;
+            let due = word_at(setpoints, setpoint_place(at, second, n, ready.index));
+            progress = tick(progress, due, n, period, captured, done as usize, id);
+            done += 1;
+        }
+    }
+    finish(c, progress)
 }
 
 // So many ticks over the channel's own setpoints, their frames captured: that of tick k at k - 1, as far as the slice reaches.
@@ -195,26 +221,18 @@ pub fn ticks(
 ) -> Advanced
     ensures { λ r. ⌜ (r .channel ≡ ticksOf c (now (setpoints .entry)) n user count) × (r .frames ≡ framesIn c (now (setpoints .entry)) n user count) × (now (captured .exit) ≡ framesAt c (now (setpoints .entry)) n user count (now (captured .entry))) ⌝ }
 {
-    let begun = command_tick(c, setpoints, n, user, count, captured);
-    let first = begun.channel;
-    let registers = first.registers;
-    let id = registers.id;
-    let at = registers::zero_based(user);
-    let second = registers.second_active(user);
-    let period = registers::period(registers.clock);
-    let mut progress = begin(begun);
-    let mut done = begun.ticks;
-    while done < count {
-        let sequencer = progress.sequencer;
-        let quiet = least(quiet::quiet_ticks(sequencer), (count - done) as u64);
-        progress = skip(progress, quiet);
-        done += quiet as u32;
-        if done < count {
-            let ready = progress.sequencer;
-            let due = word_at(setpoints, setpoint_place(at, second, n, ready.index));
-            progress = tick(progress, due, n, period, captured, done as usize, id);
-            done += 1;
-        }
+    if count == 0 {
+        return Advanced {
+            channel: c,
+            frames: 0,
+        };
     }
-    finish(first, progress)
+    let begun = command_first(c, captured);
+    let ready = begun.channel;
+    let rest = setpoint_ticks(ready, setpoints, n, user, count, captured);
+    let last = rest.channel;
+    Advanced {
+        channel: last,
+        frames: begun.frames + rest.frames,
+    }
 }

@@ -27,7 +27,7 @@ returns : tie.Need-returns
 returns c =
     let s = c .before .before in
     let nothing = c .enum-told .given .1 in
-    rw (← s .before .before .tick .ensures) (s .send-status .ensures, refl, simp nothing, simp nothing (omega arith), simp nothing)
+    rw (← s .before .before .tick .ensures) (s .send-status .ensures, refl, simp nothing (omega arith), simp nothing)
 
 same-length : tie.Need-same-length
 same-length c = search needs
@@ -38,7 +38,7 @@ returns-2 c =
     let k = w .before .before .before in
     let s = k .before .before in
     let word = k .sent .given .1 in
-    rw (← s .before .before .tick .ensures) (s .send-status .ensures, refl, simp word, simp word, simp (word, w .capture .ensures))
+    rw (← s .before .before .tick .ensures) (s .send-status .ensures, refl, simp word, simp (word, w .capture .ensures))
 
 pub tick-spec : {M : Type 1} → statement M
 tick-spec =
