@@ -103,12 +103,13 @@ module _ (s : List ℕ) (n user : ℕ) where
       after : (j : ℕ) → After c [] j (waited c j) 0 [] → (ticksOf c s n user j ≡ waited c j) × (framesIn c s n user j ≡ 0)
       after j x = (x .channel-is, x .frames-are)
 
-      go : (due : Bool) → isDue (c .commands .waiting) ≡ due → k ≤ cond due 0 (quietTicks (c .sequencer))
+      go : (due : Bool) → isDue (c .commands .waiting) ≡ due → k ≤ channelQuietTicks c
           → (ticksOf c s n user k ≡ waited c k) × (framesIn c s n user k ≡ 0)
       go true e h =
-          let z : k ≡ 0 = omega arith in
+          let few = rw e at h in
+          let z : k ≡ 0 = omega (arith, few) in
           rw z (after 0 (rw (sequencer.quiet-none (c .sequencer)) (after-none c [])))
-      go false e h = after k (rw zero-add at (after-quiet c [] 0 (after-none c []) e k h))
+      go false e h = after k (rw zero-add at (after-quiet c [] 0 (after-none c []) e k (rw e at h)))
 
   module _ (c : Channel) where
     -- No tick answers more than one frame.

@@ -14,7 +14,7 @@ use Rattle.readback.specs.declared.Disposition.the-variants as disposition
 use Rattle.command_frames.specs.declared.CommandFrames.{CommandFrames}
 use Rattle.command_frames.specs.Commanding.{isDue, takes}
 use Rattle.channel_core.specs.declared.Channel.{Channel}
-use Rattle.channel_core.specs.Answers.{Answer, isRefusal}
+use Rattle.channel_core.specs.Answers.{Answer, isRefusal, isFrame, isReceived}
 use Rattle.channel_core.specs.Answers as ans
 use Rattle.channel_core.specs.Behaviour.{tickLine, playedOf, tickAnswer}
 use Rattle.channel_replies.specs.Replying.{dispositionNow, receiptAnswer, replyAnswerAs, replyAnswer}
@@ -58,9 +58,17 @@ line-accepted id f (transmission.Word word k) = refl
 pub main-accepted : (c : Channel) (offset : ℕ) → NoRefusal (mainAnswer c offset)
 main-accepted c offset = either NoRefusal (eqb offset 0x28) refl (either NoRefusal (eqb offset 0x2a) refl refl)
 
-query-accepted : (o : OneChannel) (which : Query) → NoRefusal (queryAnswer o which)
-query-accepted o call.retired = refl
-query-accepted o call.retiredLength = refl
+-- what answers a call that changes nothing is no refusal, no frame and no receipt
+pub query-plain : (o : OneChannel) (which : Query)
+    → NoRefusal (queryAnswer o which) × (isFrame (queryAnswer o which) ≡ false) × (isReceived (queryAnswer o which) ≡ false)
+query-plain o call.retired = (refl, refl, refl)
+query-plain o call.retiredLength = (refl, refl, refl)
+
+-- a well-framed reply, lent what fits, is not refused
+pub framed-accepted : (o : OneChannel) (number : ℕ) {id word aux crc : ℕ} → read number ≡ frame.fields id word aux crc
+    → eqb (refusalOf o (call.reply (o .m * 8) number)) 0 ≡ true
+unfolding refusalOf
+framed-accepted o number framed = rw (eq-eqb (o .m * 8) (o .m * 8) refl, framed)
 
 pub accepted-answer : (o : OneChannel) (k : ChannelCall) → eqb (refusalOf o k) 0 ≡ true → NoRefusal (answer o k)
 unfolding refusalOf answer tickAnswer
@@ -72,7 +80,7 @@ accepted-answer o call.disarm e = refl
 accepted-answer o (call.reply lent f) e =
     reply-accepted (o .channel) (o .m) f
     (then-passed (lengthRefusal lent (o .m * 8)) (framingRefusal (read f)) (eqb-true (refusalOf o (call.reply lent f)) 0 e) .1)
-accepted-answer o (call.query which one two) e = query-accepted o which
+accepted-answer o (call.query which one two) e = query-plain o which .0
 accepted-answer o (call.tick lent) e =
     line-accepted (o .channel .registers .id) (o .channel .commands) (playedOf (o .channel) (o .setpoints) (o .n) (o .user) .transmission)
 accepted-answer o (call.event lent code) e = refl

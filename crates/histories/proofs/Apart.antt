@@ -10,7 +10,7 @@ use Rattle.frame.specs.Frames.{Reading, read, crcRight}
 use Rattle.frame.specs.Frames as frame
 use Rattle.status.specs.Bits.{bitAt}
 use Rattle.status.specs.Latching.{run}
-use Rattle.registers.specs.Map.{periodOf}
+use Rattle.registers.specs.Map.{periodOf, triggersOf, groupEndEvent}
 use Rattle.sequencer.specs.declared.LastSend.{LastSend}
 use Rattle.sequencer.specs.declared.Stage.{Stage}
 use Rattle.sequencer.specs.declared.Stage.the-variants as stage
@@ -206,6 +206,12 @@ module _ (c : Channel) (p : ApartIn c) where
   channel-resumed-if on pause delay = either ApartIn on (apart-resumed (c .commands) (c .sequencer) p pause delay) p
 
 -- with a Group End, whatever came before
+pub apart-ended-event : (c : Channel) (user code : ℕ) → triggersOf (c .registers) groupEndEvent code ≡ true → ApartIn (eventOf c user code)
+unfolding eventOf resumedOn endedIf groupEnded seq.groupEnded seq.idled
+apart-ended-event c user code on =
+    channel-resumed-if _ (channel-resumed-if _ (channel-resumed-if _ (channel-resumed-if _
+    (channel-started-if _ (rw on (apart-idle (cmd.groupEnded (c .commands)) (seq.groupEnded (c .sequencer)) refl refl)) _ _) _ _ _) _ _ _) _ _ _) _ _ _
+
 pub apart-ended : (c : Channel) (value : ℕ) → bitAt value 2 ≡ true → ApartIn (commanded c value)
 unfolding commanded endedIf groupEnded seq.groupEnded seq.idled
 apart-ended c value on =

@@ -17,10 +17,11 @@ use Rattle.channel_core.specs.Answers as ans
 use Rattle.channel_core.specs.Behaviour.{dueOf, tickOf, tickAnswer, userChanged}
 use Rattle.channel_registers.specs.Calls.{registerEffect, readEffect}
 use Rattle.channel.specs.Calls.{mainTaken, armedOf, disarmedOf}
-use Rattle.channel.specs.OneChannel.{Query, ChannelCall, OneChannel, queryAnswer, effect, answer, transition, response, mainRead, mainAnswer, userChange}
+use Rattle.channel.specs.OneChannel.{ChannelCall, OneChannel, effect, answer, transition, response, mainRead, mainAnswer, userChange}
 use Rattle.channel.specs.OneChannel as call
 use Rattle.histories.specs.History.{entry, asks, endsGroup, resets, stops}
 use Rattle.channel.proofs.Cases.{either}
+use Rattle.histories.proofs.Accepted.{query-plain}
 use Rattle.histories.proofs.Apart.{ApartIn, apart-nothing}
 use Rattle.histories.proofs.Keeps.{keeps-armed, keeps-event, keeps-command}
 use Rattle.histories.proofs.Cases.{by-offset}
@@ -83,11 +84,6 @@ main-plain c offset = go (eqb offset 0x28) (eqb offset 0x2a)
     go false true = (refl, refl)
     go false false = (refl, refl)
 
--- what answers a call that changes nothing is neither a frame nor a receipt
-query-plain : (o : OneChannel) (which : Query) → Plain (queryAnswer o which)
-query-plain o call.retired = (refl, refl)
-query-plain o call.retiredLength = (refl, refl)
-
 user-steps : (o : OneChannel) (user : ℕ) → StepsOf (o .n) (o .channel) ans.done false false (not (eqb user (o .user))) (userChange o user .channel .sequencer)
 unfolding userChanged idled
 user-steps o user = go (eqb user (o .user))
@@ -117,7 +113,7 @@ effect-steps o (call.writeSetpoint lent user buffer index word) p = same-steps (
 effect-steps o call.arm p = kept-steps (o .n) (o .channel) _ _ (refl, refl) (keeps-armed (o .channel .sequencer))
 effect-steps o call.disarm p = idle-steps (o .n) (o .channel .sequencer) false false
 effect-steps o (call.reply lent f) p = reply-steps (o .n) (o .channel) (o .m) f _
-effect-steps o (call.query which one two) p = same-steps (o .n) (o .channel) _ _ (query-plain o which) refl
+effect-steps o (call.query which one two) p = same-steps (o .n) (o .channel) _ _ (query-plain o which .1, query-plain o which .2) refl
 effect-steps o (call.tick lent) p =
     tick-steps (o .n) (o .channel .sequencer) (o .channel .commands) _ (o .channel .registers .id) (dueOf (o .channel) (o .setpoints) (o .n) (o .user))
     (periodOf (o .channel .registers .clock)) (period-some (o .channel .registers .clock)) (apart-nothing (o .channel) (o .setpoints) (o .n) (o .user) p)

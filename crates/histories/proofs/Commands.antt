@@ -216,7 +216,7 @@ command-ticks n m setpoints readbacks ks =
       setpoint = λ e. a ∙ line-none id f e (playedOf (u .channel) (u .setpoints) (u .n) (u .user) .transmission);
     }
 
-reads-commands : (c : OneChannel) (offset : ℕ) → 0xe0 ≤ offset → readValue (c .channel) offset ≡ cmd.loaded (c .channel .commands) offset
+pub reads-commands : (c : OneChannel) (offset : ℕ) → 0xe0 ≤ offset → readValue (c .channel) offset ≡ cmd.loaded (c .channel .commands) offset
 unfolding readValue
 reads-commands c offset h =
     rw (ne-eqb offset 0x00 (λ e. omega arith), ne-eqb offset 0x02 (λ e. omega arith), ne-eqb offset 0x04 (λ e. omega arith), le-leb 0xe0 offset h)

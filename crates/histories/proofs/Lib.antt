@@ -12,6 +12,7 @@ pub mod Calls
 pub mod Parts
 pub mod Ranges
 pub mod Commands
+pub mod Ended
 pub mod Counting
 pub mod Showing
 pub mod Windows

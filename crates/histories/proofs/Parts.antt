@@ -1,7 +1,7 @@
 -- Status, registers, stored readback counts and command frames stay in range through what a channel does. Assumes nothing.
-use Prim.Native.Nat.{ℕ, zero, suc, _+_, _≤_}
+use Prim.Native.Nat.{ℕ, zero, suc, _≤_}
 use mathlib.Core.Path.{_≡_, refl, sym, _∙_, ap}
-use mathlib.Core.Bool.{Bool, true, false, not, _&&_}
+use mathlib.Core.Bool.{Bool, true, false, not}
 use mathlib.Core.List.{List, [], _∷_}
 use native.Mathlib.Omega.{arith}
 use lib.ListN.{length, getD, set, replicate, length-set}
@@ -24,8 +24,9 @@ use Rattle.readback.specs.declared.Disposition.{Disposition}
 use Rattle.readback.specs.declared.Disposition.the-variants as disposition
 use Rattle.readback.specs.Storing.{keptIn, capacity}
 use Rattle.command_frames.specs.declared.CommandFrames.{CommandFrames}
-use Rattle.command_frames.specs.Commanding.{isDue, takes, idWord, withPair, received}
+use Rattle.command_frames.specs.Commanding.{isDue, takes, received}
 use Rattle.command_frames.specs.Commanding as cmd
+use Rattle.command_frames.proofs.Laws.{taken-few}
 use Rattle.channel_core.specs.declared.Channel.{Channel}
 use Rattle.channel_core.specs.State.{opened, reset, withStatus, withRegisters, withSequencer, withCommands}
 use Rattle.channel_core.specs.Behaviour.{started, startedIf, endedIf, resumedIf, resumedOn, eventOf, commanded, groupEnded, earlyEnded, userChanged, sendStatus, isSetpoint, dueOf, playedOf, tickOf}
@@ -138,21 +139,11 @@ stored-commands f offset value h =
     (either CommandsInRange (eqb offset 0xfc) (record { count = h .count; replies = h .replies }) h))
 
 received-commands : (f : CommandFrames) (wrong : Bool) (id word : ℕ) → CommandsInRange f → CommandsInRange (received f wrong id word)
-unfolding received takes
-received-commands f wrong id word h = by-test CommandsInRange (takes f) (λ e. more (f .receiving) e) (λ e. h)
-  where
-    more : (on : Bool) → (on && ltb (f .count) 6) ≡ true
-        → CommandsInRange
-        (record {
-          header = f .header;
-          word = f .word;
-          waiting = f .waiting;
-          receiving = f .receiving;
-          count = f .count + 1;
-          replies = withPair (f .replies) (f .count) (idWord id wrong) word;
-        })
-    more true e = record { count = omega (arith, ltb-true (f .count) 6 e); replies = simp length-set (h .replies) }
-    more false e = clash e
+unfolding received
+received-commands f wrong id word h =
+    by-test CommandsInRange (takes f)
+    (λ e. record { count = omega (arith, taken-few f e); replies = simp length-set (h .replies) })
+    (λ e. h)
 
 -- ---- The channel
 

@@ -4,7 +4,6 @@ use mathlib.Core.Path.{_≡_, refl, sym, _∙_, ap, subst}
 use mathlib.Core.Bool.{Bool, true, false, cond, not, _&&_, _||_}
 use lib.ListN.{length}
 use lib.Dec.{eqb, ltb}
-use borrow.Author.Tests.{eq-eqb}
 use Rattle.frame.specs.Frames.{read, fields, crcRight}
 use Rattle.sequencer.specs.declared.LastSend.{LastSend}
 use Rattle.sequencer.specs.Playing.{isIdle}
@@ -21,6 +20,7 @@ use Rattle.histories.specs.Ranges.{Quiet}
 use Rattle.histories.specs.Commands.{commandsOver}
 use Rattle.histories.specs.Keeping.{Kept, keptOver}
 use Rattle.histories.specs.Replying.{dueByWindow, hasSpace, storedAfter, storesReply, Replied, RepliesByWindow}
+use Rattle.histories.proofs.Accepted.{framed-accepted}
 use Rattle.histories.proofs.Refusing.{accepted-transition, accepted-response}
 use Rattle.histories.proofs.Ticks.{sendWindow, windowOf}
 use Rattle.histories.proofs.Depths.{depths-kept}
@@ -38,8 +38,8 @@ module _
     call = reply (o .m * 8) number
 
     not-refused : eqb (refusalOf o call) 0 ≡ true
-    unfolding call refusalOf
-    not-refused = rw (eq-eqb (o .m * 8) (o .m * 8) refl, framed)
+    unfolding call
+    not-refused = framed-accepted o number framed
 
     -- idle, nothing was sent
     due : isDue (isIdle (o .channel .sequencer .stage)) (o .channel .sequencer .last) ≡ dueByWindow w

@@ -1,70 +1,26 @@
 -- A Group End shows the setpoints sent before it in registers 10 and 12. Assumes nothing.
 use Prim.Native.Nat.{ℕ, _/_, _%_, min}
 use mathlib.Core.Path.{_≡_, refl, _∙_, ap}
-use mathlib.Core.Bool.{Bool, true, false, _&&_}
+use mathlib.Core.Bool.{true}
 use native.Mathlib.Omega.{arith}
-use lib.Dec.{eqb}
-use Rattle.status.specs.Bits.{bitAt}
 use Rattle.register_map.specs.AccessRule.{channelAccess}
 use Rattle.registers.specs.declared.Registers.{Registers}
-use Rattle.registers.specs.Map.{triggersOf, groupEndEvent, loaded}
+use Rattle.registers.specs.Map.{loaded}
 use Rattle.registers.specs.Map as reg
-use Rattle.channel_core.specs.declared.Channel.{Channel}
-use Rattle.channel_core.specs.Answers.{Answer, value}
-use Rattle.channel_core.specs.Behaviour.{endedIf, groupEnded, eventOf, commanded}
-use Rattle.channel_registers.specs.Calls.{registerEffect, readValue}
-use Rattle.channel.specs.OneChannel.{ChannelCall, OneChannel, oneChannel, refusalOf, effect, answer, transition, response, transitions, readRegister}
-use Rattle.channel.specs.OneChannel as call
-use Rattle.histories.specs.History.{entry, toldOf, asks, endsGroup, sendsSince}
-use Rattle.channel.proofs.Cases.{clash}
+use Rattle.channel_core.specs.Answers.{value}
+use Rattle.channel_core.specs.Behaviour.{groupEnded}
+use Rattle.channel_registers.specs.Calls.{readValue}
+use Rattle.channel.specs.OneChannel.{ChannelCall, OneChannel, oneChannel, refusalOf, answer, transition, response, transitions, readRegister}
+use Rattle.histories.specs.History.{entry, toldOf, endsGroup, sendsSince}
 use Rattle.histories.specs.Counting.{mostCounted, ShowsSends}
 use Rattle.histories.proofs.Counting.{counts-sends}
-use Rattle.histories.proofs.Cases.{by-offset}
-use Rattle.histories.proofs.Leaves.{leaves-event, leaves-command}
-use Rattle.histories.proofs.Refusing.{by-refusal}
-
-ended-shown : (on : Bool) (c : Channel) → on ≡ true → endedIf on c .registers .shown ≡ c .sequencer .count
-unfolding endedIf groupEnded reg.groupEnded
-ended-shown true c e = refl
-ended-shown false c e = clash e
-
-event-shown : (c : Channel) (user code : ℕ) → triggersOf (c .registers) groupEndEvent code ≡ true
-    → eventOf c user code .registers .shown ≡ c .sequencer .count
-event-shown c user code e = ap (λ (r : Registers). r .shown) (leaves-event c user code .registers) ∙ ended-shown _ c e
-
-command-shown : (c : Channel) (word : ℕ) → bitAt word 2 ≡ true → commanded c word .registers .shown ≡ c .sequencer .count
-command-shown c word e = ap (λ (r : Registers). r .shown) (leaves-command c word .registers) ∙ ended-shown (bitAt word 2) c e
-
-register-shown : (c : Channel) (offset word : ℕ) → (eqb offset 0x08 && bitAt word 2) ≡ true
-    → registerEffect c offset word .registers .shown ≡ c .sequencer .count
-unfolding registerEffect
-register-shown c offset word =
-    by-offset
-    (λ (x : ℕ). (eqb x 0x08 && bitAt word 2) ≡ true → registerEffect c x word .registers .shown ≡ c .sequencer .count)
-    offset (λ e. clash e) (λ e. clash e) (λ e. command-shown c word e) (λ d e f g. clash (rw f at g))
-
-effect-shown : (o : OneChannel) (k : ChannelCall) → asks o k .groupEnd ≡ true
-    → effect o k .channel .registers .shown ≡ o .channel .sequencer .count
-unfolding effect
-effect-shown o (call.writeRegister lent offset word) e = register-shown (o .channel) offset word e
-effect-shown o (call.readRegister offset) e = clash e
-effect-shown o (call.writeSetpoint lent user buffer index word) e = clash e
-effect-shown o call.arm e = clash e
-effect-shown o call.disarm e = clash e
-effect-shown o (call.reply lent f) e = clash e
-effect-shown o (call.query which one two) e = clash e
-effect-shown o (call.tick lent) e = clash e
-effect-shown o (call.event lent code) e = event-shown (o .channel) (o .user) code e
-effect-shown o (call.changeUser user) e = clash e
-effect-shown o (call.writeMain lent offset word) e = clash e
-effect-shown o (call.readMain offset) e = clash e
+use Rattle.histories.proofs.Ended.{ended-step}
 
 -- a Group End, from any state
-pub shown-step : (o : OneChannel) (k : ChannelCall) → endsGroup (entry o k) ≡ true
+shown-step : (o : OneChannel) (k : ChannelCall) → endsGroup (entry o k) ≡ true
     → transition o k .channel .registers .shown ≡ o .channel .sequencer .count
-shown-step o k =
-    by-refusal (λ (x : OneChannel) (a : Answer) (b c d : Bool). b ≡ true → x .channel .registers .shown ≡ o .channel .sequencer .count) o k
-    (λ e. effect-shown o k) (λ e. clash e)
+unfolding groupEnded reg.groupEnded
+shown-step o k e = ap (λ (r : Registers). r .shown) (ended-step o k e .leaves .registers)
 
 reads-high : (o : OneChannel) → response o (readRegister 0x10) ≡ value (o .channel .registers .shown / 65536 % 256)
 unfolding channelAccess response refusalOf answer readValue loaded

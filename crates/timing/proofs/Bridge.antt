@@ -193,12 +193,16 @@ on-tick-add o k j h =
     ∙ ap (λ (p : OneChannel). response p (oneTick o)) (after-add o k (j - 1))
     ∙ ap (response (after (after o k) (j - 1))) (sym (same-tick o k))
 
+-- with no command frame due, none leaves
+pub between-none : (o : OneChannel) (j : ℕ) → isDue (o .channel .commands .waiting) ≡ false → between o j ≡ ans.none
+between-none o j e = rw e (either (λ (a : Answer). a ≡ ans.none) (eqb j 1) refl refl)
+
 -- what leaves between setpoints, d ticks after k
 pub between-add : (o : OneChannel) (k d : ℕ) → 1 ≤ d → between (after o k) d ≡ between o (k + d)
 unfolding after
 between-add o zero d h = sym (ap (between o) (zero-add d))
 between-add o (suc k) d h =
-    either (λ (a : Answer). a ≡ ans.none) (eqb d 1) (rw (due-later o k)) refl ∙ sym (between-past o (suc k + d) (omega arith))
+    between-none (after o (suc k)) d (due-later o k) ∙ sym (between-past o (suc k + d) (omega arith))
 
 pub later-ticks : the.LaterTicks
 later-ticks o k = (after-keeps o k, on-tick-add o k)

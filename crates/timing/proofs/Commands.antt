@@ -7,46 +7,41 @@ use native.Mathlib.Omega.{arith}
 use lib.ListN.{length, getD, set, length-set}
 use lib.Seq.{getD-set-same, getD-set-other}
 use lib.Dec.{eqb, ltb}
-use borrow.Author.Tests.{eq-eqb, ne-eqb, eqb-true, le-leb, le-ltb, lt-ltb}
+use borrow.Author.Tests.{eq-eqb, ne-eqb, eqb-true, le-ltb, lt-ltb}
 use Rattle.frame.specs.Frames.{read, fields, crcRight}
 use Rattle.register_map.specs.AccessRule.{channelAccess}
 use Rattle.register_map.specs.AccessRefusals.{readRefusal}
 use Rattle.status.specs.Bits.{bitAt}
-use Rattle.sequencer.specs.declared.LastSend.{LastSend}
 use Rattle.sequencer.specs.declared.Transmission.{Transmission}
 use Rattle.sequencer.specs.declared.Transmission.the-variants as transmission
 use Rattle.sequencer.specs.Playing.{isIdle}
-use Rattle.sequencer.specs.Playing as seq
 use Rattle.sequencer.specs.Runs.{ticks, sends}
 use Rattle.readback.specs.Storing.{dispositionOf}
 use Rattle.readback.specs.Storing as rb
 use Rattle.command_frames.specs.declared.CommandFrames.{CommandFrames}
-use Rattle.command_frames.specs.declared.Waiting.{Waiting}
 use Rattle.command_frames.specs.declared.Waiting.the-variants as waiting
 use Rattle.command_frames.specs.Commanding.{isDue, requested, reached, takes, received, withHeader, withWord, withWaiting, idWord, withPair, commandFrame}
 use Rattle.command_frames.specs.Commanding as cmd
 use Rattle.command_frames.proofs.Laws.{ticked-idle}
-use Rattle.channel_core.specs.declared.Channel.{Channel}
-use Rattle.channel_core.specs.Answers.{Answer}
 use Rattle.channel_core.specs.Answers as ans
 use Rattle.channel_core.specs.State.{reset, withCommands}
-use Rattle.channel_core.specs.Behaviour.{groupEnded, endedIf, commanded, isSetpoint}
+use Rattle.channel_core.specs.Behaviour.{groupEnded, isSetpoint}
 use Rattle.channel_replies.specs.Replying.{dispositionNow, replyAnswer, replyOf, replyWords}
 use Rattle.channel_registers.specs.Calls.{registerRefusal, registerEffect, registerWords, readValue}
 use Rattle.channel.specs.Calls.{disarmedOf}
-use Rattle.channel.specs.OneChannel.{OneChannel, readRegister, disarm, reply, refusalOf, effect, answer, transition, response, withChannel}
-use Rattle.channel.proofs.Cases.{clash, either}
+use Rattle.channel.specs.OneChannel.{OneChannel, ChannelCall, readRegister, disarm, reply, refusalOf, effect, answer, transition, response, withChannel}
+use Rattle.channel.proofs.Cases.{clash}
 use Rattle.histories.specs.Ranges.{ApartAt}
-use Rattle.histories.proofs.Keeps.{keeps-command}
-use Rattle.histories.proofs.Leaves.{leaves-command}
 use Rattle.histories.proofs.Refusing.{accepted-transition, accepted-response}
-use Rattle.histories.proofs.Apart.{ticked-nothing, idle-apart, apart-ended}
+use Rattle.histories.proofs.Apart.{ticked-nothing, idle-apart}
 use Rattle.timing.specs.Ticking.{after, onTick, between, answerOn, wordAt, period, plays}
-use Rattle.timing.specs.Timing.{command}
 use Rattle.timing.specs.Commands.{written, prepared, carried, PairKept}
 use Rattle.timing.specs.Commands as the
-use Rattle.timing.proofs.Bridge.{on-tick, after-commands}
-use Rattle.timing.proofs.Calls.{command-transition}
+use Rattle.histories.specs.History.{entry, endsGroup}
+use Rattle.histories.proofs.Accepted.{framed-accepted}
+use Rattle.histories.proofs.Commands.{reads-commands}
+use Rattle.histories.proofs.Ended.{ended-step}
+use Rattle.timing.proofs.Bridge.{on-tick, after-commands, between-none}
 
 -- the channel with other command frames
 abbrev with : OneChannel → CommandFrames → OneChannel
@@ -149,28 +144,20 @@ waits-on o (suc k) h =
     let w = waits-on o k h in
     ap (λ (f : CommandFrames). f .waiting) (after-commands o k ∙ ticked-idle (after o k .channel .commands) (isSetpoint (plays o (suc k))) (ap isDue w)) ∙ w
 
--- after a Group End by command
-ended-waiting : (c : Channel) (group : ℕ) → bitAt group 2 ≡ true → commanded c group .commands .waiting ≡ reached (c .commands .waiting)
-unfolding endedIf groupEnded cmd.groupEnded
-ended-waiting c group on =
-    ap (λ (f : CommandFrames). f .waiting) (leaves-command c group .commands) ∙ ap (λ (b : Bool). endedIf b c .commands .waiting) on
+-- after a Group End
+ended-waiting : (o : OneChannel) (g : ChannelCall) → endsGroup (entry o g) ≡ true
+    → transition o g .channel .commands .waiting ≡ reached (o .channel .commands .waiting)
+unfolding groupEnded cmd.groupEnded
+ended-waiting o g ends = ap (λ (f : CommandFrames). f .waiting) (ended-step o g ends .leaves .commands)
 
 pub sends-after-group-end : the.SendsAfterGroupEnd
-sends-after-group-end o value k group header word off on ends =
+sends-after-group-end o value k g header word off on ends =
     let q = with o (withWaiting (o .channel .commands) waiting.GroupEnd) in
     let w = after (written o 0xfc value) k in
-    let x = transition w (command w group) in
-    let c = commanded (w .channel) group in
-    let e : x .channel ≡ c = ap (λ (p : OneChannel). p .channel) (command-transition w group) in
     let at : w .channel .commands .waiting ≡ waiting.GroupEnd =
     subst (λ (p : OneChannel). after p k .channel .commands .waiting ≡ waiting.GroupEnd) (sym (group-written o value off on)) (waits-on q k refl) in
-    let due : isDue (c .commands .waiting) ≡ true = ap isDue (ended-waiting (w .channel) group ends ∙ ap reached at) in
-    sends-prepared x header word (ap (λ (d : Channel). isDue (d .commands .waiting)) e ∙ due)
-    (subst (λ (d : Channel). ApartAt (d .sequencer .stage) (d .sequencer .left)) (sym e) (apart-ended (w .channel) group ends .due due))
-
--- nothing waits for the next tick: none leaves
-between-none : (o : OneChannel) (j : ℕ) → isDue (o .channel .commands .waiting) ≡ false → between o j ≡ ans.none
-between-none o j e = rw e (either (λ (a : Answer). a ≡ ans.none) (eqb j 1) refl refl)
+    let due = ap isDue (ended-waiting w g ends ∙ ap reached at) in
+    sends-prepared (transition w g) header word due (ended-step w g ends .apart .due due)
 
 pub waits-for-group-end : the.WaitsForGroupEnd
 waits-for-group-end o value j off on =
@@ -178,22 +165,12 @@ waits-for-group-end o value j off on =
 
 -- ---- Dropped
 
-command-waiting : (c : Channel) (group : ℕ) → c .commands .waiting ≡ waiting.Nothing → isDue (commanded c group .commands .waiting) ≡ false
-unfolding endedIf groupEnded cmd.groupEnded
-command-waiting c group h =
-    ap (λ (f : CommandFrames). isDue (f .waiting)) (leaves-command c group .commands) ∙ go (bitAt group 2)
-  where
-    go : (b : Bool) → isDue (endedIf b c .commands .waiting) ≡ false
-    go true = ap (λ (w : Waiting). isDue (reached w)) h
-    go false = ap isDue h
-
--- with nothing waiting none leaves, before or after a command
-never : (o : OneChannel) (group j : ℕ) → o .channel .commands .waiting ≡ waiting.Nothing
-    → (between o j ≡ ans.none) × (between (transition o (command o group)) j ≡ ans.none)
-never o group j h = (
+-- with nothing waiting none leaves, not even after a Group End
+never : (o : OneChannel) (j : ℕ) → o .channel .commands .waiting ≡ waiting.Nothing
+    → (between o j ≡ ans.none) × ((g : ChannelCall) → endsGroup (entry o g) ≡ true → between (transition o g) j ≡ ans.none)
+never o j h = (
   between-none o j (ap isDue h),
-  between-none (transition o (command o group)) j
-      (ap (λ (p : OneChannel). isDue (p .channel .commands .waiting)) (command-transition o group) ∙ command-waiting (o .channel) group h),
+  λ g ends. between-none (transition o g) j (ap isDue (ended-waiting o g ends ∙ ap reached h)),
 )
 
 disarm-waiting : (o : OneChannel) → transition o disarm .channel .commands .waiting ≡ waiting.Nothing
@@ -205,9 +182,9 @@ unfolding transition refusalOf effect registerRefusal registerEffect channelAcce
 reset-waiting o = rw (eq-eqb (o .m * 8) (o .m * 8) refl)
 
 pub dropped : the.Dropped
-dropped o group j =
-    let d = never (transition o disarm) group j (disarm-waiting o) in
-    let r = never (written o 0x06 1) group j (reset-waiting o) in
+dropped o j =
+    let d = never (transition o disarm) j (disarm-waiting o) in
+    let r = never (written o 0x06 1) j (reset-waiting o) in
     (d .0, d .1, r .0, r .1)
 
 -- ---- Replies
@@ -235,23 +212,19 @@ readable-at i (suc n) h e =
     go true d last below = subst (λ (x : ℕ). eqb (readRefusal (channelAccess (0xe4 + 2 * x))) 0 ≡ true) (sym (eqb-true i n d)) last
     go false d last below = let differ : i ≡ n → ⊥ = λ x. clash (sym d ∙ eq-eqb i n x) in below (omega arith)
 
+loaded-pair : (f : CommandFrames) (i offset : ℕ) → i < 12 → offset ≡ 0xe4 + 2 * i → cmd.loaded f offset ≡ getD (f .replies) i 0
+unfolding cmd.loaded
+loaded-pair f i offset h e =
+    let at : (offset - 0xe4) / 2 ≡ i = omega arith in
+    rw
+    (ne-eqb offset 0xe0 (λ x. omega arith), ne-eqb offset 0xe2 (λ x. omega arith), le-ltb offset 0xe4 (omega arith), lt-ltb offset 0xfc (omega arith), at)
+
 reads-pair : (o : OneChannel) (i offset : ℕ) → i < 12 → offset ≡ 0xe4 + 2 * i
     → response o (readRegister offset) ≡ ans.value (getD (o .channel .commands .replies) i 0)
-unfolding refusalOf answer readValue cmd.loaded
+unfolding refusalOf answer
 reads-pair o i offset h e =
-    let at : (offset - 0xe4) / 2 ≡ i = omega arith in
     accepted-response o (readRegister offset) (ap (λ (x : ℕ). eqb (readRefusal (channelAccess x)) 0) e ∙ readable-at i 12 h all-readable)
-    ∙ rw (
-      ne-eqb offset 0x00 (λ x. omega arith),
-      ne-eqb offset 0x02 (λ x. omega arith),
-      ne-eqb offset 0x04 (λ x. omega arith),
-      le-leb 0xe0 offset (omega arith),
-      ne-eqb offset 0xe0 (λ x. omega arith),
-      ne-eqb offset 0xe2 (λ x. omega arith),
-      le-ltb offset 0xe4 (omega arith),
-      lt-ltb offset 0xfc (omega arith),
-      at,
-    )
+    ∙ ap ans.value (reads-commands o offset (omega arith) ∙ loaded-pair (o .channel .commands) i offset h e)
 
 -- the pair at its place
 pair-first : (l : List ℕ) (k a b : ℕ) → length l ≡ 12 → k < 6 → getD (withPair l k a b) (2 * k) 0 ≡ a
@@ -269,17 +242,13 @@ module _ (o : OneChannel) (number id word aux crc k : ℕ) (framed : read number
     unfolding takes
     taken = rw (on, lt-ltb (o .channel .commands .count) 6 (omega (arith, counted)))
 
-    not-refused : eqb (refusalOf o (reply (o .m * 8) number)) 0 ≡ true
-    unfolding refusalOf
-    not-refused = rw (eq-eqb (o .m * 8) (o .m * 8) refl, framed)
-
     kept : response o (reply (o .m * 8) number) ≡ ans.kept
     unfolding answer replyAnswer
-    kept = accepted-response o (reply (o .m * 8) number) not-refused ∙ rw (framed, taken)
+    kept = accepted-response o (reply (o .m * 8) number) (framed-accepted o number framed) ∙ rw (framed, taken)
 
     frames : transition o (reply (o .m * 8) number) .channel .commands ≡ received (o .channel .commands) (not (crcRight id word aux crc)) id word
     unfolding effect replyOf
-    frames = ap (λ (p : OneChannel). p .channel .commands) (accepted-transition o (reply (o .m * 8) number) not-refused) ∙ rw (framed, taken)
+    frames = ap (λ (p : OneChannel). p .channel .commands) (accepted-transition o (reply (o .m * 8) number) (framed-accepted o number framed)) ∙ rw (framed, taken)
 
     pairs : transition o (reply (o .m * 8) number) .channel .commands .replies
         ≡ withPair (o .channel .commands .replies) k (idWord id (not (crcRight id word aux crc))) word
@@ -294,7 +263,7 @@ module _ (o : OneChannel) (number id word aux crc k : ℕ) (framed : read number
 
     same-words : transition o (reply (o .m * 8) number) .readbacks ≡ o .readbacks
     unfolding effect replyWords
-    same-words = ap (λ (p : OneChannel). p .readbacks) (accepted-transition o (reply (o .m * 8) number) not-refused) ∙ rw (framed, taken)
+    same-words = ap (λ (p : OneChannel). p .readbacks) (accepted-transition o (reply (o .m * 8) number) (framed-accepted o number framed)) ∙ rw (framed, taken)
 
     pair-kept : PairKept o number id word k (crcRight id word aux crc)
     pair-kept =
@@ -325,10 +294,6 @@ module _ (o : OneChannel) (number id word aux crc : ℕ) (framed : read number �
     unfolding takes
     not-taken = ap (λ (b : Bool). b && ltb (o .channel .commands .count) 6) off
 
-    accepted : eqb (refusalOf o (reply (o .m * 8) number)) 0 ≡ true
-    unfolding refusalOf
-    accepted = rw (eq-eqb (o .m * 8) (o .m * 8) refl, framed)
-
     not-due : (idle : Bool) → rb.isDue idle (o .channel .sequencer .last) ≡ false
     not-due true = refl
     not-due false = ap (λ (b : Bool). b && ltb (o .channel .sequencer .last .replies) 6) unsent
@@ -336,25 +301,16 @@ module _ (o : OneChannel) (number id word aux crc : ℕ) (framed : read number �
     unasked : response o (reply (o .m * 8) number) ≡ ans.unsolicited
     unfolding answer replyAnswer dispositionNow dispositionOf
     unasked =
-        accepted-response o (reply (o .m * 8) number) accepted
+        accepted-response o (reply (o .m * 8) number) (framed-accepted o number framed)
         ∙ rw (framed, not-taken, not-due (isIdle (o .channel .sequencer .stage)))
 
-ended-receiving : (c : Channel) (group : ℕ) → bitAt group 2 ≡ true → commanded c group .commands .receiving ≡ false
-unfolding endedIf groupEnded cmd.groupEnded
-ended-receiving c group on =
-    ap (λ (f : CommandFrames). f .receiving) (leaves-command c group .commands) ∙ ap (λ (b : Bool). endedIf b c .commands .receiving) on
-
-ended-unsent : (c : Channel) (group : ℕ) → bitAt group 2 ≡ true → commanded c group .sequencer .last .sent ≡ false
-unfolding endedIf groupEnded seq.groupEnded seq.idled
-ended-unsent c group on =
-    ap (λ (l : LastSend). l .sent) (keeps-command c group .last-kept) ∙ ap (λ (b : Bool). endedIf b c .sequencer .last .sent) on
+ended-receiving : (o : OneChannel) (g : ChannelCall) → endsGroup (entry o g) ≡ true → transition o g .channel .commands .receiving ≡ false
+unfolding groupEnded cmd.groupEnded
+ended-receiving o g ends = ap (λ (f : CommandFrames). f .receiving) (ended-step o g ends .leaves .commands)
 
 pub group-end-closes : the.GroupEndCloses
-group-end-closes o group number id word aux crc on framed =
-    let e = ap (λ (p : OneChannel). p .channel) (command-transition o group) in
-    unasked (transition o (command o group)) number id word aux crc framed
-    (ap (λ (c : Channel). c .commands .receiving) e ∙ ended-receiving (o .channel) group on)
-    (ap (λ (c : Channel). c .sequencer .last .sent) e ∙ ended-unsent (o .channel) group on)
+group-end-closes o g number id word aux crc ends framed =
+    unasked (transition o g) number id word aux crc framed (ended-receiving o g ends) (ended-step o g ends .unsent)
 
 -- ---- All of it
 

@@ -4,21 +4,20 @@ use Prim.Native.Nat.{ℕ, _≤_}
 use mathlib.Core.Path.{_≡_, refl, sym}
 use mathlib.Core.Bool.{Bool, true, false}
 use mathlib.Core.List.{List, [], _∷_}
-use lib.Dec.{eqb}
 use Rattle.sequencer.specs.declared.Stage.{Stage}
 use Rattle.sequencer.specs.declared.Stage.the-variants as stage
 use Rattle.sequencer.specs.Playing.{isIdle, isStarting}
 use Rattle.command_frames.specs.Commanding.{isDue}
 use Rattle.channel_core.specs.declared.Channel.{Channel}
-use Rattle.channel_core.specs.Answers.{Answer}
 use Rattle.channel_core.specs.Answers as ans
 use Rattle.channel_core.specs.State.{opened}
 use Rattle.channel.specs.OneChannel.{OneChannel, ChannelCall, transition, transitions, oneChannel}
-use Rattle.channel.proofs.Cases.{clash, either}
+use Rattle.channel.proofs.Cases.{clash}
 use Rattle.histories.specs.Ranges.{CountdownInRange, Countdown, ApartAt}
 use Rattle.histories.proofs.Calls.{steps}
 use Rattle.histories.proofs.Ranges.{Ordered, ordered-opened, ordered-step, ordered-from}
 use Rattle.timing.specs.Ticking.{between}
+use Rattle.timing.proofs.Bridge.{between-none}
 use Rattle.timing.specs.Timing as the
 
 some-left : (g : Stage) (left resume : ℕ) → CountdownInRange g left resume → isIdle g ≡ false → 1 ≤ left
@@ -55,10 +54,7 @@ only-setpoints n m s r ks idle starting j = go (isDue (c .commands .waiting)) re
     c : Channel
     c = transitions (oneChannel n m s r) ks .channel
 
-    none : isDue (c .commands .waiting) ≡ false → between (transitions (oneChannel n m s r) ks) j ≡ ans.none
-    none e = rw e (either (λ (a : Answer). a ≡ ans.none) (eqb j 1) refl refl)
-
     go : (b : Bool) → isDue (c .commands .waiting) ≡ b → between (transitions (oneChannel n m s r) ks) j ≡ ans.none
     go true e =
         absurd (waits-idle (c .sequencer .stage) (c .sequencer .left) idle starting (ordered-from (oneChannel n m s r) ks ordered-opened .apart .due e))
-    go false e = none e
+    go false e = between-none (transitions (oneChannel n m s r) ks) j e

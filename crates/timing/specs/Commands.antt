@@ -9,8 +9,8 @@ use Rattle.status.specs.Bits.{bitAt, bitOf}
 use Rattle.sequencer.specs.Playing.{isIdle}
 use Rattle.channel_core.specs.Answers as ans
 use Rattle.channel.specs.OneChannel.{OneChannel, ChannelCall, writeRegister, readRegister, disarm, reply, transition, response}
+use Rattle.histories.specs.History.{entry, endsGroup}
 use Rattle.timing.specs.Ticking.{after, onTick, between}
-use Rattle.timing.specs.Timing.{command}
 
 -- a write to a register of this channel, lent memory of the right length
 abbrev pub write : OneChannel → ℕ → ℕ → ChannelCall
@@ -45,13 +45,15 @@ SendsNow =
     → let p = prepared (written o 0xfc value) header word in
     (onTick p 1 ≡ carried header word) × (response (after p 1) (readRegister 0xfe) ≡ ans.value 0)
 
--- "D1 sends on the tick after the next Group End.", however many ticks come before it, whatever waited before, and whether or not the command starts too
+-- "D1 sends on the tick after the next Group End.", however many ticks come before it, whatever waited before, and whatever call `g` it comes by: its
+-- event or Commands D2, with a Start or without
 abbrev pub SendsAfterGroupEnd : Type 0
 SendsAfterGroupEnd =
-    (o : OneChannel) (value k group header word : ℕ)
-    → bitAt value 0 ≡ false → bitAt value 1 ≡ true → bitAt group 2 ≡ true
+    (o : OneChannel) (value k : ℕ) (g : ChannelCall) (header word : ℕ)
+    → bitAt value 0 ≡ false → bitAt value 1 ≡ true
     → let w = after (written o 0xfc value) k in
-    let p = prepared (transition w (command w group)) header word in
+    endsGroup (entry w g) ≡ true
+    → let p = prepared (transition w g) header word in
     (onTick p 1 ≡ carried header word) × (response (after p 1) (readRegister 0xfe) ≡ ans.value 0)
 
 -- and none before it
@@ -66,11 +68,11 @@ NeitherBit = (o : OneChannel) (value : ℕ) → bitAt value 0 ≡ false → bitA
 -- "Disarm and reset drop a waiting frame.": none leaves, not even after a Group End
 abbrev pub Dropped : Type 0
 Dropped =
-    (o : OneChannel) (group j : ℕ)
+    (o : OneChannel) (j : ℕ)
     → let d = transition o disarm in
     let r = written o 0x06 1 in
-    (between d j ≡ ans.none) × (between (transition d (command d group)) j ≡ ans.none)
-    × (between r j ≡ ans.none) × (between (transition r (command r group)) j ≡ ans.none)
+    (between d j ≡ ans.none) × ((g : ChannelCall) → endsGroup (entry d g) ≡ true → between (transition d g) j ≡ ans.none)
+    × (between r j ≡ ans.none) × ((g : ChannelCall) → endsGroup (entry r g) ≡ true → between (transition r g) j ≡ ans.none)
 
 -- ---- Replies
 
@@ -95,8 +97,8 @@ RepliesToCommands =
 -- "until .. Group End": after one a reply is unasked, whatever was sent before it
 abbrev pub GroupEndCloses : Type 0
 GroupEndCloses =
-    (o : OneChannel) (group number id word aux crc : ℕ) → bitAt group 2 ≡ true → read number ≡ fields id word aux crc
-    → let p = transition o (command o group) in
+    (o : OneChannel) (g : ChannelCall) (number id word aux crc : ℕ) → endsGroup (entry o g) ≡ true → read number ≡ fields id word aux crc
+    → let p = transition o g in
     response p (reply (p .m * 8) number) ≡ ans.unsolicited
 
 -- ---- All of it
