@@ -2,10 +2,12 @@
 
 mod command;
 mod life;
+mod missing;
 mod replies;
 
 pub use self::replies::Reply;
 use self::life::Asked;
+use self::missing::Watch;
 use crate::channel::{Channel, Hold, Window, ACTIVE, CLOCK, END, START, SWITCH};
 use crate::map::{place, rule, Place};
 use crate::tally::{Did, Tally};
@@ -41,13 +43,16 @@ pub struct Board {
     main: [u16; 2],
     ch: [Channel; 4],
     pub tally: Tally,
+    /// For the tally alone.
+    watch: [Watch; 4],
 }
 
 impl Board {
     /// "all registers 0, channels disarmed, user 1, buffers 1 active, no readbacks"
     fn blank(n: u32, m: u32) -> Board {
         let ch = [Channel::new(), Channel::new(), Channel::new(), Channel::new()];
-        Board { n, m, user: 1, now: 0, level: 0, vector: 0, enable: 0, main: [0, 0], ch, tally: Tally::new() }
+        let watch = Default::default();
+        Board { n, m, user: 1, now: 0, level: 0, vector: 0, enable: 0, main: [0, 0], ch, tally: Tally::new(), watch }
     }
 
     /// Misfit: "a depth out of range, or lent lengths other than 64 × N and 8 × M". What a
@@ -80,7 +85,7 @@ impl Board {
     /// Refusals 1, 3, 4, 10, 5.
     pub fn write(&mut self, address: u32, value: u16, readbacks: &mut [u32]) -> Result<(), u8> {
         self.readbacks_fit(readbacks).inspect_err(|_| self.tally.add(Did::write_refused_1))?;
-        let (c, offset) = match place(address, true)? {
+        let (c, offset) = match place(address, true).inspect_err(|&n| self.tally_missing_written(address, n))? {
             Place::Main(0x22) => return Ok(self.level = value & 7),
             Place::Main(0x24) => return Ok(self.vector = value),
             Place::Main(_) => return Ok(self.enable = value & 0xF7),
@@ -109,6 +114,7 @@ impl Board {
         self.tally.add(if self.ch[c].function.is_some() { Did::reset_not_idle } else { Did::reset_idle });
         self.drop_command(c, Did::command_dropped_by_reset);
         self.close_window(c, Window::Closed);
+        self.watch_reset(c);
         self.ch[c] = Channel::new();
     }
 
@@ -145,8 +151,10 @@ impl Board {
                 if latched != 0 {
                     self.tally.add(Did::channel_status_read);
                 }
+                self.watch_status_read(c, latched);
                 Ok(latched)
             }
+            Place::Channel(c, 0x0C) => Ok(self.read_missing(c)),
             Place::Channel(c, offset) => {
                 self.tally_command_read(c, offset as usize / 2);
                 Ok(self.ch[c].w[offset as usize / 2])
@@ -193,6 +201,7 @@ impl Board {
         self.tally.add(if self.ch[c].function.is_some() { Did::disarm_not_idle } else { Did::disarm_idle });
         let is_armed = self.ch[c].armed;
         self.drop_command(c, if is_armed { Did::command_dropped_by_disarm } else { Did::command_dropped_by_disarm_of_disarmed });
+        self.watch_idling(c, Did::missing_idled_by_disarm, Did::missing_kept_over_disarm);
         self.ch[c].function = None;
         self.ch[c].armed = false;
         Ok(())
@@ -246,6 +255,7 @@ impl Board {
         self.tally.add(Did::user_changed);
         self.user = user;
         for c in 0..4 {
+            self.watch_idling(c, Did::missing_idled_by_user_change, Did::missing_kept_over_user_change);
             self.end_function(c, Did::ee_by_user_change);
             if self.is_for_command(c) {
                 self.tally.add(Did::command_window_open_at_user_change);
@@ -280,7 +290,7 @@ impl Board {
                 Some((_, Hold::Pause(k))) => k,
                 _ => 0,
             },
-            replies: f.and_then(|f| f.sent).map(|s| s.1),
+            replies: f.and_then(|f| f.sent).map(|s| s.replies),
             stored: ch.stored[ch.active_readback()],
             active: ch.w[ACTIVE],
             command_is_due: ch.waiting.is_some_and(|w| w.due.is_some()),

@@ -9,6 +9,8 @@ pub const EOF: u16 = 1 << 14;
 pub const GE: u16 = 1 << 13;
 pub const EE: u16 = 1 << 12;
 pub const CRC: u16 = 1 << 2;
+/// Document 02, request 2: "Each shortfall latches D4 of both channel statuses."
+pub const MR: u16 = 1 << 4;
 
 /// What makes a word repeat. Pause 5 is the VME pause.
 #[derive(Clone, Copy, PartialEq)]
@@ -34,6 +36,17 @@ pub fn status_of(h: Hold) -> u16 {
     }
 }
 
+/// A setpoint send.
+#[derive(Clone, Copy)]
+pub struct Sent {
+    /// D31–D26 of its readbacks.
+    pub tag: u32,
+    /// The Frame ID that it carried.
+    pub id: u8,
+    /// The replies after it, kept or lost, at most six.
+    pub replies: u32,
+}
+
 /// A function that is not idle.
 #[derive(Clone)]
 pub struct Function {
@@ -47,8 +60,8 @@ pub struct Function {
     pub resume: Option<u64>,
     /// The last word went since the latest Start.
     pub ended: bool,
-    /// The last send since idle: D31–D26 of its readbacks, and the replies after it.
-    pub sent: Option<(u32, u32)>,
+    /// The last send since idle.
+    pub sent: Option<Sent>,
     /// No send since the latest Start (for the tally alone).
     pub fresh: bool,
 }
@@ -96,6 +109,7 @@ pub struct Channel {
 // Half offsets in `w`.
 pub const ENABLE: usize = 0x00 / 2;
 pub const CLOCK: usize = 0x0A / 2;
+pub const MISSING: usize = 0x0C / 2;
 pub const ACTIVE: usize = 0x0E / 2;
 pub const COUNT: usize = 0x10 / 2;
 pub const ID: usize = 0x14 / 2;

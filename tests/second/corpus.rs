@@ -9,6 +9,7 @@ mod acts;
 mod commands;
 mod dice;
 mod files;
+mod missing;
 mod story;
 mod summary;
 mod world;

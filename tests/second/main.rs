@@ -1,5 +1,5 @@
 //! The second program: the V233 bench written once more from documents 01, 000 and 02 alone, to
-//! be compared with the product. Of document 02 it has request 1.
+//! be compared with the product. Of document 02 it has requests 1 and 2.
 //!
 //!   second run | trace | calls     reads standard input to its end, prints what the product's
 //!                                  program of that name prints

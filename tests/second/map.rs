@@ -11,6 +11,8 @@ pub fn rule(offset: u32) -> Option<(bool, bool, u16)> {
         0x02 | 0x04 | 0x0E | 0x10 | 0x12 => Some((true, false, 0)),
         0x06 | 0x08 => Some((false, true, 0)),
         0x0A => Some((true, true, 0xFFFF)),
+        // document 02, request 2: "Read-only register 0C"
+        0x0C => Some((true, false, 0)),
         0x14 => Some((true, true, 0x00FF)),
         0x20..=0x2A => Some((true, true, 0x01FF)),
         0x30..=0x3E => Some((false, true, 0x0001)),

@@ -94,6 +94,7 @@ impl Bench {
         let (mut opened, said) = Board::open(n, m, setpoints.min(SETPOINTS), readbacks.min(READBACKS));
         if said.is_ok() {
             opened.tally.add(Did::opened_again);
+            opened.watch_opening(&self.board);
         }
         opened.tally.join(&self.board.tally);
         self.board = opened;

@@ -49,6 +49,19 @@ tallies! {
     command_window_closed_by_setpoint command_window_closed_by_group_end command_window_closed_by_reset
     command_window_open_at_user_change
     command_fields_read command_pair_read command_old_pair_read command_count_read
+    missing_1 missing_2 missing_3 missing_4 missing_5 missing_6 missing_none_of_six missing_other_id
+    missing_id_changed_from_15 missing_id_changed_to_15 missing_with_lost_reply missing_none_with_lost_reply
+    missing_at_next_word missing_at_repeat_of_pause missing_at_repeat_of_last missing_repeat_after_repeat
+    missing_with_pause missing_with_eof missing_across_resume missing_across_restart missing_across_restart_with_replies
+    missing_idled_by_group_end missing_idled_by_disarm missing_idled_by_user_change missing_idled_by_reset
+    missing_command_before missing_command_replies_before
+    missing_reaches_255 missing_cut_to_255 missing_stays_255 missing_latched_at_255
+    missing_latched_again missing_main_bit_raised missing_main_bit_not_enabled
+    missing_on_two_channels_at_once missing_many_in_one_record missing_none_then_six_in_one_record
+    missing_some_then_six_in_one_record missing_reaches_255_in_one_record
+    missing_count_read missing_255_read missing_d4_kept_over_count_read
+    missing_kept_over_group_end missing_kept_over_disarm missing_kept_over_user_change missing_kept_over_status_read
+    missing_cleared_by_read missing_cleared_by_reset missing_cleared_by_opening missing_count_written
 }
 
 #[derive(Clone)]

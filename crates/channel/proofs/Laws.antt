@@ -25,5 +25,6 @@ arm-armed c e =
       word = c .sequencer .word;
       last = c .sequencer .last;
       count = c .sequencer .count;
+      missing = c .sequencer .missing;
     }))
     (sym e)

@@ -1,5 +1,5 @@
 -- Document 01, 'A channel's life': what a channel does, over its own part of the lent memory (16 × N setpoint words, 2 × M readback words).
--- Document 02, card 1: command frames, at a tick and a Group End.
+-- Document 02, card 1: command frames, at a tick and a Group End; card 2: what a setpoint send latches for the send before it.
 use Prim.Native.Nat.{ℕ, _+_, _-_, _*_, _%_}
 use mathlib.Core.Bool.{Bool, true, false, cond}
 use mathlib.Core.List.{List}
@@ -8,15 +8,16 @@ use lib.Dec.{eqb}
 use Rattle.frame.specs.Frames.{encoded}
 use Rattle.status.specs.declared.Status.{Status}
 use Rattle.status.specs.Bits.{bitAt, bitOf}
-use Rattle.status.specs.Latching.{latched, run, groupEnd, earlyEnd}
+use Rattle.status.specs.Latching.{latched, run, groupEnd, earlyEnd, missingReadback}
 use Rattle.registers.specs.declared.Registers.{Registers}
 use Rattle.registers.specs.Map.{periodOf, triggersOf, startEvent, groupEndEvent, delayOf, secondActive, readbackPlace}
 use Rattle.registers.specs.Map as reg
+use Rattle.sequencer.specs.declared.LastSend.{LastSend}
 use Rattle.sequencer.specs.declared.Sequencer.{Sequencer}
 use Rattle.sequencer.specs.declared.Transmission.{Transmission}
 use Rattle.sequencer.specs.declared.Transmission.the-variants as transmission
 use Rattle.sequencer.specs.declared.Ticked as t
-use Rattle.sequencer.specs.Playing.{isIdle, unfinished, idled, ticked}
+use Rattle.sequencer.specs.Playing.{isIdle, unfinished, idled, shortfall, ticked}
 use Rattle.sequencer.specs.Playing as seq
 use Rattle.readback.specs.Storing.{endWords}
 use Rattle.readback.specs.Storing as rb
@@ -125,12 +126,20 @@ dueOf c s n user = getD s (setpointPlace (user - 1) (bitOf (secondActive (c .reg
 
 -- the sequencer's share of a tick
 abbrev pub playedOf : Channel → List ℕ → ℕ → ℕ → t.Ticked
-playedOf c s n user = ticked (c .sequencer) (dueOf c s n user) n (periodOf (c .registers .clock))
+playedOf c s n user = ticked (c .sequencer) (dueOf c s n user) n (periodOf (c .registers .clock)) (c .registers .id)
 
--- the status with what a send latches; 0 is no condition
-abbrev pub sendStatus : Status → Transmission → Status
-sendStatus s transmission.Nothing = s
-sendStatus s (transmission.Word word k) = cond (eqb k 0) s (latched s k)
+-- card 2: "Each shortfall latches D4 of both channel statuses.", `last` being the send before
+abbrev pub shortStatus : Status → LastSend → Status
+shortStatus s last = cond (eqb (shortfall last) 0) s (latched s missingReadback)
+
+-- the status with a condition of the word sent; 0 is none
+abbrev pub conditionStatus : Status → ℕ → Status
+conditionStatus s k = cond (eqb k 0) s (latched s k)
+
+-- the status with what a send latches: it "first looks at the setpoint send before it since idle"
+abbrev pub sendStatus : Status → LastSend → Transmission → Status
+sendStatus s last transmission.Nothing = s
+sendStatus s last (transmission.Word word k) = conditionStatus (shortStatus s last) k
 
 -- "Setpoint frames carry the register's Frame ID, D15–D0 of the word, auxiliary 0."
 abbrev pub sendFrame : ℕ → Transmission → Answer
@@ -155,7 +164,7 @@ tickLine id f (transmission.Word word k) = sendFrame id (transmission.Word word 
 unfoldable pub tickOf : Channel → List ℕ → ℕ → ℕ → Channel
 tickOf c s n user =
     withCommands
-    (withSequencer (withStatus c (sendStatus (c .status) (playedOf c s n user .transmission))) (playedOf c s n user .sequencer))
+    (withSequencer (withStatus c (sendStatus (c .status) (c .sequencer .last) (playedOf c s n user .transmission))) (playedOf c s n user .sequencer))
     (cmd.ticked (c .commands) (isSetpoint (playedOf c s n user .transmission)))
 
 -- "A tick answers with each channel's frame or none." Never two: `NeverTogether` (histories).

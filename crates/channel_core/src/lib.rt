@@ -4,6 +4,7 @@ use command_frames::CommandFrames;
 use readback::Readbacks;
 use refusal::Refusal;
 use registers::Registers;
+use sequencer::LastSend;
 use sequencer::Sequencer;
 use sequencer::Transmission;
 use status::Status;
@@ -14,7 +15,7 @@ ghost use Rattle.frame.specs.Frames.{encoded};
 ghost use Rattle.status.specs.Bits.{bitOf};
 ghost use Rattle.channel_core.specs.Answers.{lineOf};
 ghost use Rattle.channel_core.specs.State.{opened, reset};
-ghost use Rattle.channel_core.specs.Behaviour.{started, earlyEnded, userChanged, groupEnded, endedIf, endedWords, startedIf, resumedIf, resumedOn, eventOf, eventWords, commanded, commandWords, setpointPlace, dueOf, sendStatus, isSetpoint, commandAnswer, tickLine, tickOf, tickAnswer};
+ghost use Rattle.channel_core.specs.Behaviour.{started, earlyEnded, userChanged, groupEnded, endedIf, endedWords, startedIf, resumedIf, resumedOn, eventOf, eventWords, commanded, commandWords, setpointPlace, dueOf, shortStatus, sendStatus, isSetpoint, commandAnswer, tickLine, tickOf, tickAnswer};
 
 pub struct Channel {
     pub status: Status,
@@ -69,17 +70,28 @@ fn early_ended(status: Status, sequencer: Sequencer) -> Status
     status
 }
 
-// The status with what a send latches.
-pub fn send_status(status: Status, sent: Transmission) -> Status
-    ensures { λ r. ⌜ r ≡ sendStatus status sent ⌝ }
+// The status as the next setpoint is sent: whether readbacks are missing after the send before it.
+fn short_status(status: Status, last: LastSend) -> Status
+    ensures { λ r. ⌜ r ≡ shortStatus status last ⌝ }
+{
+    if last.shortfall() == 0 {
+        return status;
+    }
+    status.latched(status::MISSING_READBACK)
+}
+
+// The status with what a send latches, `last` being the send before it.
+pub fn send_status(status: Status, last: LastSend, sent: Transmission) -> Status
+    ensures { λ r. ⌜ r ≡ sendStatus status last sent ⌝ }
 {
     match sent {
         Transmission::Nothing => status,
         Transmission::Word { word: _, condition } => {
+            let looked_back = short_status(status, last);
             if condition == 0 {
-                return status;
+                return looked_back;
             }
-            status.latched(condition)
+            looked_back.latched(condition)
         }
     }
 }
@@ -289,11 +301,12 @@ impl Channel {
             self.due(setpoints, n, user),
             n,
             registers::period(registers.clock),
+            registers.id,
         );
         let next = ticked.sequencer;
         let sent = ticked.transmission;
         let mut c = self;
-        c.status = send_status(status, sent);
+        c.status = send_status(status, sequencer.last, sent);
         c.sequencer = next;
         c.commands = commands.ticked(sends(sent));
         Ticked {

@@ -1,4 +1,4 @@
--- A status read clears its own copy alone, and no Main bit. Assumes nothing.
+-- A status read clears its own copy alone, and no Main bit; a read of 0C neither. Assumes nothing.
 use mathlib.Core.Path.{_≡_, refl}
 use Rattle.channel_core.specs.declared.Channel.{Channel}
 use Rattle.channel_registers.specs.Calls.{readEffect}
@@ -15,3 +15,12 @@ pub read-keeps-main : (c : Channel) → (readEffect c 0x02 .status .interrupt .m
     × (readEffect c 0x04 .status .polling .main ≡ c .status .polling .main)
 unfolding readEffect
 read-keeps-main c = (refl, refl)
+
+pub read-0c-keeps-status : (c : Channel) → readEffect c 0x0c .status ≡ c .status
+unfolding readEffect
+read-0c-keeps-status c = refl
+
+pub read-status-keeps-missing : (c : Channel) → (readEffect c 0x02 .sequencer .missing ≡ c .sequencer .missing)
+    × (readEffect c 0x04 .sequencer .missing ≡ c .sequencer .missing)
+unfolding readEffect
+read-status-keeps-missing c = (refl, refl)

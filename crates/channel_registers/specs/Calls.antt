@@ -1,5 +1,5 @@
 -- Document 01, 'Calls' and 'Register map': register write and register read of one channel, over its own part of the lent memory.
--- Document 02, card 1: E0–FE, and refusal 10.
+-- Document 02, card 1: E0–FE, and refusal 10; card 2: 0C.
 -- Each refusal is decided by one definition (0: none), in the order of document 01's table, 10 where its card says; what a call does goes by cases on it.
 use Prim.Native.Nat.{ℕ}
 use mathlib.Core.Bool.{Bool, cond, not, _&&_}
@@ -14,12 +14,12 @@ use Rattle.status.specs.declared.Status.{Status}
 use Rattle.status.specs.declared.Latches.{Latches}
 use Rattle.status.specs.Latching.{enabled, clearedIn}
 use Rattle.registers.specs.Map.{stored, loaded}
-use Rattle.sequencer.specs.Playing.{isIdle}
+use Rattle.sequencer.specs.Playing.{isIdle, withMissing}
 use Rattle.command_frames.specs.Commanding as cmd
 use Rattle.channel_core.specs.declared.Channel.{Channel}
 use Rattle.channel_core.specs.Answers.{Answer, unless}
 use Rattle.channel_core.specs.Answers as ans
-use Rattle.channel_core.specs.State.{reset, withStatus, withRegisters, withCommands}
+use Rattle.channel_core.specs.State.{reset, withStatus, withRegisters, withSequencer, withCommands}
 use Rattle.channel_core.specs.Behaviour.{commanded, commandWords}
 
 -- ---- Register write
@@ -67,11 +67,12 @@ withInterrupt s l = record { enable = s .enable; interrupt = l; polling = s .pol
 abbrev pub withPolling : Status → Latches → Status
 withPolling s l = record { enable = s .enable; interrupt = s .interrupt; polling = l }
 
--- "Reading a status clears the latched bits .. of that register only."
+-- "Reading a status clears the latched bits .. of that register only."; "Read-only register 0C shows it and a read clears it."
 unfoldable pub readEffect : Channel → ℕ → Channel
 readEffect c offset =
     cond (eqb offset 0x02) (withStatus c (withInterrupt (c .status) (clearedIn (c .status .interrupt))))
-    (cond (eqb offset 0x04) (withStatus c (withPolling (c .status) (clearedIn (c .status .polling)))) c)
+    (cond (eqb offset 0x04) (withStatus c (withPolling (c .status) (clearedIn (c .status .polling))))
+    (cond (eqb offset 0x0c) (withSequencer c (withMissing (c .sequencer) 0)) c))
 
 -- what a read shows, before it clears anything
 unfoldable pub readValue : Channel → ℕ → ℕ
@@ -79,7 +80,8 @@ readValue c offset =
     cond (eqb offset 0x00) (c .status .enable)
     (cond (eqb offset 0x02) (wordOfBits (c .status .interrupt .bits))
     (cond (eqb offset 0x04) (wordOfBits (c .status .polling .bits))
-    (cond (leb 0xe0 offset) (cmd.loaded (c .commands) offset) (loaded (c .registers) offset))))
+    (cond (eqb offset 0x0c) (c .sequencer .missing)
+    (cond (leb 0xe0 offset) (cmd.loaded (c .commands) offset) (loaded (c .registers) offset)))))
 
 -- the call: the channel after it, and its answer
 unfoldable pub readOf : Channel → ℕ → Channel

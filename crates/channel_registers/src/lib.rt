@@ -130,6 +130,10 @@ fn read_value(c: Channel, offset: u16) -> u16
         let bits = latches.bits;
         return status::word_of_bits(bits);
     }
+    if offset == 0x0c {
+        let sequencer = c.sequencer;
+        return sequencer.missing as u16;
+    }
     if offset >= 0xe0 {
         let commands = c.commands;
         return commands.loaded(offset);
@@ -138,7 +142,7 @@ fn read_value(c: Channel, offset: u16) -> u16
     registers.loaded(offset)
 }
 
-// A status read clears that copy.
+// A status read clears that copy, a read of the count of missing readbacks that count.
 fn read_effect(c: Channel, offset: u16) -> Channel
     ensures { λ r. ⌜ r ≡ readEffect c offset ⌝ }
 {
@@ -155,6 +159,12 @@ fn read_effect(c: Channel, offset: u16) -> Channel
         status.polling = latches.cleared();
         let mut next = c;
         next.status = status;
+        return next;
+    }
+    if offset == 0x0c {
+        let sequencer = c.sequencer;
+        let mut next = c;
+        next.sequencer = sequencer.missing_cleared();
         return next;
     }
     c

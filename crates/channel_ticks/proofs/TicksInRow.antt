@@ -53,10 +53,10 @@ module _ (s : List ℕ) (n user : ℕ) where
       → (tickOf (waited c k) s n user ≡ waited c (suc k)) × (tickAnswer (waited c k) s n user ≡ ans.none)
   unfolding tickOf tickAnswer
   quiet-next c k none h =
-      let e = sequencer.quiet-next (c .sequencer) (dueOf (waited c k) s n user) n (periodOf (c .registers .clock)) k h in (
+      let e = sequencer.quiet-next (c .sequencer) (dueOf (waited c k) s n user) n (periodOf (c .registers .clock)) (c .registers .id) k h in (
         ap
             (λ (y : t.Ticked).
-            withCommands (withSequencer (withStatus c (sendStatus (c .status) (y .transmission))) (y .sequencer))
+            withCommands (withSequencer (withStatus c (sendStatus (c .status) (waited c k .sequencer .last) (y .transmission))) (y .sequencer))
             (cmd.ticked (c .commands) (isSetpoint (y .transmission)))) e
             ∙ ap (withCommands (waited c (suc k))) (ticked-idle (c .commands) false none),
         ap (λ (y : t.Ticked). tickLine (c .registers .id) (c .commands) (y .transmission)) e
@@ -155,27 +155,27 @@ module _ (s : List ℕ) (n user : ℕ) where
       → due ≡ getD s (setpointPlace (user - 1) (bitOf (secondActive (c .registers) (user - 1))) n (q .index)) 0
       → p ≡ periodOf (c .registers .clock)
       → id ≡ c .registers .id
-      → st' ≡ sendStatus st (ticked q due n p .transmission)
-      → q' ≡ ticked q due n p .sequencer
-      → f' ≡ f + asNumber (ticked q due n p .transmission)
-      → m' ≡ withFrame (sendFrame id (ticked q due n p .transmission)) k m
+      → st' ≡ sendStatus st (q .last) (ticked q due n p id .transmission)
+      → q' ≡ ticked q due n p id .sequencer
+      → f' ≡ f + asNumber (ticked q due n p id .transmission)
+      → m' ≡ withFrame (sendFrame id (ticked q due n p id .transmission)) k m
       → Held c l (k + 1) st' q' f' m'
   unfolding tickOf tickAnswer dueOf
   held-tick c l k {st} {st'} {q} {q'} {f} {f'} {m} {m'} due p id x none d e i a b g h =
       let on = receivingAfter (c .commands .receiving) f in
-      let v : ticked q due n p ≡ playedOf (moved c st q on) s n user = simp (d, e) in
-      let sent = ticked q due n p .transmission in
+      let v : ticked q due n p id ≡ playedOf (moved c st q on) s n user = simp (d, e, i) in
+      let sent = ticked q due n p id .transmission in
       let w = withReceiving (c .commands) on in
       let r = receiving-next (c .commands .receiving) f f' sent g in
       let y = after-next c l k {e = moved c st' q' (receivingAfter (c .commands .receiving) f')} {a = sendFrame (c .registers .id) sent} x
       (ap
       (λ (z : t.Ticked).
-      withCommands (withSequencer (withStatus c (sendStatus st (z .transmission))) (z .sequencer)) (cmd.ticked w (isSetpoint (z .transmission))))
+      withCommands (withSequencer (withStatus c (sendStatus st (q .last) (z .transmission))) (z .sequencer)) (cmd.ticked w (isSetpoint (z .transmission))))
       (sym v)
       ∙ simp (ticked-idle w (isSetpoint sent) none, a, b, r))
       (ap (λ (z : t.Ticked). tickLine (c .registers .id) w (z .transmission)) (sym v) ∙ line-none (c .registers .id) w none sent) in
       let f-is : f' ≡ f + cond (isFrame (sendFrame (c .registers .id) sent)) 1 0 = g ∙ ap (λ (z : ℕ). f + z) (sym (number (c .registers .id) sent)) in
-      let m-is : m' ≡ withFrame (sendFrame (c .registers .id) sent) k m = rw i at h in
+      let m-is : m' ≡ withFrame (sendFrame (c .registers .id) sent) k m = h ∙ ap (λ (z : ℕ). withFrame (sendFrame z sent) k m) i in
       rw add-one (record { channel-is = y .channel-is; frames-are = y .frames-are ∙ sym f-is; captured-is = y .captured-is ∙ sym m-is })
 
   -- ---- With a command frame due
@@ -183,7 +183,7 @@ module _ (s : List ℕ) (n user : ℕ) where
   -- The next tick comes to the same, its share of the command frames done first; it answers the command frame where that leaves, else as then.
   module _ (c : Channel) where
     sends-next : sendsNext c ≡ isSetpoint (playedOf c s n user .transmission)
-    sends-next = sequencer.sends-next (c .sequencer) (dueOf c s n user) n (periodOf (c .registers .clock))
+    sends-next = sequencer.sends-next (c .sequencer) (dueOf c s n user) n (periodOf (c .registers .clock)) (c .registers .id)
 
     twice : (f : CommandFrames) (on : Bool) → cmd.ticked (cmd.ticked f on) on ≡ cmd.ticked f on
     unfolding cmd.ticked
@@ -209,7 +209,7 @@ module _ (s : List ℕ) (n user : ℕ) where
         x = playedOf c s n user
 
         d : Channel
-        d = withSequencer (withStatus c (sendStatus (c .status) (x .transmission))) (x .sequencer)
+        d = withSequencer (withStatus c (sendStatus (c .status) (c .sequencer .last) (x .transmission))) (x .sequencer)
 
         go : (b : Bool) → tickOf (cond b (withCommands c (cmd.ticked (c .commands) (sendsNext c))) c) s n user ≡ tickOf c s n user
         go true =

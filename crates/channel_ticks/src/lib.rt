@@ -100,14 +100,14 @@ fn tick(
     id: u8,
 ) -> Progress
     requires { ⌜ progress .frames < 4294967295 ⌝ }
-    ensures { λ r. ⌜ (r .status ≡ sendStatus (progress .status) (ticked (progress .sequencer) due n period .transmission)) × (r .sequencer ≡ ticked (progress .sequencer) due n period .sequencer) × (r .frames ≡ progress .frames + asNumber (ticked (progress .sequencer) due n period .transmission)) × (now (captured .exit) ≡ withFrame (sendFrame id (ticked (progress .sequencer) due n period .transmission)) at (now (captured .entry))) ⌝ }
+    ensures { λ r. ⌜ (r .status ≡ sendStatus (progress .status) (progress .sequencer .last) (ticked (progress .sequencer) due n period id .transmission)) × (r .sequencer ≡ ticked (progress .sequencer) due n period id .sequencer) × (r .frames ≡ progress .frames + asNumber (ticked (progress .sequencer) due n period id .transmission)) × (now (captured .exit) ≡ withFrame (sendFrame id (ticked (progress .sequencer) due n period id .transmission)) at (now (captured .entry))) ⌝ }
 {
     let sequencer = progress.sequencer;
     let status = progress.status;
-    let ticked = sequencer.tick(due, n, period);
+    let ticked = sequencer.tick(due, n, period, id);
     let next = ticked.sequencer;
     let sent = ticked.transmission;
-    let latched = send_status(status, sent);
+    let latched = send_status(status, sequencer.last, sent);
     match sent {
         Transmission::Nothing => Progress {
             status: latched,

@@ -2,4 +2,5 @@ pub mod RunRows
 pub mod Resumes
 pub mod Starred
 pub mod CommandRows
+pub mod MissingRows
 pub mod Reached

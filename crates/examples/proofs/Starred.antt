@@ -39,7 +39,7 @@ resume-rows = record { delay-25 = λ o code h e. resume-25 o code h e; delay-0 =
 
 word-rows : WordRows
 unfolding storedWord
-word-rows = record { d31-with-d16 = λ word last pause. moves.last-bit word false last; stored-word = refl }
+word-rows = record { d31-with-d16 = λ word last pause. moves.last-bit word false last; stored-word = λ id. refl }
 
 pub starred : Starred
 starred = record { frames = frame-rows; delays = delay-rows; resumes = resume-rows; words = word-rows; runs = run-rows }

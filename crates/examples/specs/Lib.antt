@@ -2,3 +2,4 @@ pub mod RunRows
 pub mod Starred
 pub mod Reached
 pub mod CommandRows
+pub mod MissingRows

@@ -91,15 +91,15 @@ pub record ResumeRows : Type 0 where
 
 -- ---- Words
 
--- the last send was first and last
-abbrev pub firstAndLast : LastSend
-firstAndLast = record { sent = true; first = true; paused = false; last = true; replies = 0 }
+-- the last send was first and last, whatever Frame ID it carried
+abbrev pub firstAndLast : (id : ℕ) → LastSend
+firstAndLast id = record { sent = true; first = true; paused = false; last = true; id = id; replies = 0 }
 
 pub record WordRows : Type 0 where
   -- "D31 with D16: last.", where its place does not make it so (`false`)
   pub d31-with-d16 : (word : ℕ) → bitAt word 31 ≡ true → bitAt word 16 ≡ true → kindOf word false ≡ kind.Last
   -- "User 1, first and last, ID 15h, data 1234h: A0151234h."
-  pub stored-word : storedWord firstAndLast 1 false 0x15 0x1234 ≡ 0xA0151234
+  pub stored-word : (id : ℕ) → storedWord (firstAndLast id) 1 false 0x15 0x1234 ≡ 0xA0151234
 
 pub record Starred : Type 0 where
   pub frames : FrameRows

@@ -42,16 +42,16 @@ ApartIn c = Apart (c .commands) (c .sequencer)
 
 -- ---- A tick with a command frame sends no setpoint
 
-module _ (s : Sequencer) (due n p : ℕ) where
-  starting-nothing : 2 ≤ s .left → advancing s due n p .transmission ≡ transmission.Nothing
+module _ (s : Sequencer) (due n p id : ℕ) where
+  starting-nothing : 2 ≤ s .left → advancing s due n p id .transmission ≡ transmission.Nothing
   unfolding advancing
   starting-nothing h = rw (lt-leb (s .left) 1 (omega arith))
 
-  pub ticked-nothing : ApartAt (s .stage) (s .left) → ticked s due n p .transmission ≡ transmission.Nothing
+  pub ticked-nothing : ApartAt (s .stage) (s .left) → ticked s due n p id .transmission ≡ transmission.Nothing
   unfolding ticked
   ticked-nothing = go (s .stage)
     where
-      go : (g : Stage) → ApartAt g (s .left) → tickedAt g s due n p .transmission ≡ transmission.Nothing
+      go : (g : Stage) → ApartAt g (s .left) → tickedAt g s due n p id .transmission ≡ transmission.Nothing
       go stage.Idle h = refl
       go stage.Starting h = starting-nothing h
       go stage.Running h = absurd h
@@ -61,7 +61,7 @@ module _ (s : Sequencer) (due n p : ℕ) where
 
 pub apart-nothing : (c : Channel) (s : List ℕ) (n user : ℕ) → ApartIn c → isDue (c .commands .waiting) ≡ true
     → playedOf c s n user .transmission ≡ transmission.Nothing
-apart-nothing c s n user p e = ticked-nothing (c .sequencer) (dueOf c s n user) n (periodOf (c .registers .clock)) (p .due e)
+apart-nothing c s n user p e = ticked-nothing (c .sequencer) (dueOf c s n user) n (periodOf (c .registers .clock)) (c .registers .id) (p .due e)
 
 -- ---- What keeps them apart
 
@@ -157,27 +157,27 @@ module _ (f : CommandFrames) (s : Sequencer) (p : Apart f s) where
       (record { due = p .due; due-unsent = p .due-unsent; receiving-unsent = p .receiving-unsent }) p
 
   -- a tick: none is due after it; with no setpoint the last send stays
-  apart-ticked : (due n period : ℕ) (x : Transmission) → ticked s due n period .transmission ≡ x
-      → Apart (cmd.ticked f (isSetpoint x)) (ticked s due n period .sequencer)
+  apart-ticked : (due n period id : ℕ) (x : Transmission) → ticked s due n period id .transmission ≡ x
+      → Apart (cmd.ticked f (isSetpoint x)) (ticked s due n period id .sequencer)
   unfolding cmd.ticked
-  apart-ticked due n period x e =
+  apart-ticked due n period id x e =
       record {
         due = λ d. clash (sym (ticked-due f (isSetpoint x)) ∙ d);
         due-unsent = λ d. clash (sym (ticked-due f (isSetpoint x)) ∙ d);
         receiving-unsent = go x e;
       }
     where
-      window : windowOf (ticked s due n period .sequencer) ≡ windowSent (ticked s due n period .transmission) (windowOf s)
-      window = plays-ticked s due n period .window
+      window : windowOf (ticked s due n period id .sequencer) ≡ windowSent id (ticked s due n period id .transmission) (windowOf s)
+      window = plays-ticked s due n period id .window
 
       unsent : (b : Bool) → isDue (f .waiting) ≡ b → cond b (sent f) f .receiving ≡ true → s .last .sent ≡ false
       unsent true d r = p .due-unsent d
       unsent false d r = p .receiving-unsent r
 
-      go : (y : Transmission) → ticked s due n period .transmission ≡ y → cmd.ticked f (isSetpoint y) .receiving ≡ true
-          → ticked s due n period .sequencer .last .sent ≡ false
+      go : (y : Transmission) → ticked s due n period id .transmission ≡ y → cmd.ticked f (isSetpoint y) .receiving ≡ true
+          → ticked s due n period id .sequencer .last .sent ≡ false
       go transmission.Nothing d r =
-          ap (λ (w : Window). w .sent) (window ∙ ap (λ (z : Transmission). windowSent z (windowOf s)) d) ∙ unsent (isDue (f .waiting)) refl r
+          ap (λ (w : Window). w .sent) (window ∙ ap (λ (z : Transmission). windowSent id z (windowOf s)) d) ∙ unsent (isDue (f .waiting)) refl r
       go (transmission.Word word k) d r = clash r
 
 -- ---- The channel
@@ -244,7 +244,7 @@ module _ (c : Channel) (p : ApartIn c) where
   pub apart-tick : (s : List ℕ) (n user : ℕ) → ApartIn (tickOf c s n user)
   unfolding tickOf
   apart-tick s n user =
-      apart-ticked (c .commands) (c .sequencer) p (dueOf c s n user) n (periodOf (c .registers .clock)) (playedOf c s n user .transmission) refl
+      apart-ticked (c .commands) (c .sequencer) p (dueOf c s n user) n (periodOf (c .registers .clock)) (c .registers .id) (playedOf c s n user .transmission) refl
 
   disposition-apart : (d : Disposition) (m : ℕ) (right : Bool) → ApartIn (receivedChannel d c m right)
   disposition-apart disposition.Unsolicited m right = p

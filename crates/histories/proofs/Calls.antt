@@ -1,42 +1,44 @@
 -- The sequencer's step at each call, from any state: not refused, then refused or not. Assumes nothing.
 use Prim.Native.Nat.{ℕ, _≤_}
-use mathlib.Core.Path.{_≡_, refl}
+use mathlib.Core.Path.{_≡_, refl, sym, _∙_, subst}
 use mathlib.Core.Bool.{Bool, true, false, cond, not, _&&_}
 use native.Mathlib.Omega.{arith}
 use lib.Dec.{eqb, leb}
+use borrow.Author.Tests.{eqb-true, ne-eqb}
 use Rattle.status.specs.Bits.{bitAt}
 use Rattle.registers.specs.Map.{periodOf, triggersOf, groupEndEvent, stored}
 use Rattle.sequencer.specs.declared.Sequencer.{Sequencer}
-use Rattle.sequencer.specs.Playing.{idled, disarmed}
+use Rattle.sequencer.specs.Playing.{idled, disarmed, withMissing}
 use Rattle.channel_core.specs.declared.Channel.{Channel}
 use Rattle.command_frames.specs.Commanding.{isDue, takes}
 use Rattle.command_frames.specs.Commanding as cmd
-use Rattle.channel_core.specs.State.{reset, withRegisters, withCommands}
+use Rattle.channel_core.specs.State.{reset, withRegisters, withSequencer, withCommands}
 use Rattle.channel_core.specs.Answers.{Answer}
 use Rattle.channel_core.specs.Answers as ans
 use Rattle.channel_core.specs.Behaviour.{dueOf, tickOf, tickAnswer, userChanged}
-use Rattle.channel_registers.specs.Calls.{registerEffect, readEffect}
+use Rattle.channel_registers.specs.Calls.{registerEffect, readEffect, readValue}
 use Rattle.channel.specs.Calls.{mainTaken, armedOf, disarmedOf}
 use Rattle.channel.specs.OneChannel.{ChannelCall, OneChannel, effect, answer, transition, response, mainRead, mainAnswer, userChange}
 use Rattle.channel.specs.OneChannel as call
-use Rattle.histories.specs.History.{entry, asks, endsGroup, resets, stops}
-use Rattle.channel.proofs.Cases.{either}
+use Rattle.histories.specs.History.{entry, asks, endsGroup, resets, stops, readsAt}
+use Rattle.channel.proofs.Cases.{either, by-test}
 use Rattle.histories.proofs.Accepted.{query-plain}
 use Rattle.histories.proofs.Apart.{ApartIn, apart-nothing}
 use Rattle.histories.proofs.Keeps.{keeps-armed, keeps-event, keeps-command}
 use Rattle.histories.proofs.Cases.{by-offset}
 use Rattle.histories.proofs.Refusing.{by-refusal}
-use Rattle.histories.proofs.Steps.{Plain, Steps, keeps-steps, kept-steps, same-steps, idle-steps, tick-steps, reply-steps}
+use Rattle.histories.proofs.Steps.{Plain, Steps, keeps-steps, kept-steps, same-steps, idle-steps, read-steps, tick-steps, reply-steps}
 
 -- a channel with this sequencer
 abbrev Has : Sequencer → Channel → Type 0
 Has s c = c .sequencer ≡ s
 
 -- of a channel: its command frames say whether one is due and takes a reply
-abbrev StepsOf : ℕ → Channel → Answer → (ends again stops : Bool) → Sequencer → Type 0
-StepsOf n c a ends again stops t = Steps n (c .sequencer) a (isDue (c .commands .waiting)) (takes (c .commands)) ends again stops t
+abbrev StepsOf : ℕ → Channel → Answer → (ends again stops reads : Bool) → Sequencer → Type 0
+StepsOf n c a ends again stops reads t =
+    Steps n (c .registers .id) (c .sequencer) a (isDue (c .commands .waiting)) (takes (c .commands)) ends again stops reads t
 
-reset-if : (n : ℕ) (c : Channel) (on : Bool) → StepsOf n c ans.done false on false (cond on (reset c) c .sequencer)
+reset-if : (n : ℕ) (c : Channel) (on : Bool) → StepsOf n c ans.done false on false false (cond on (reset c) c .sequencer)
 unfolding reset
 reset-if n c true = idle-steps n (c .sequencer) false true
 reset-if n c false = same-steps n c ans.done (c .sequencer) (refl, refl) refl
@@ -48,13 +50,13 @@ kept-register : (c : Channel) (offset value : ℕ)
 kept-register c offset value = either (Has (c .sequencer)) (leb 0xe0 offset) refl refl
 
 register-steps : (n : ℕ) (c : Channel) (offset value : ℕ)
-    → StepsOf n c ans.done (eqb offset 0x08 && bitAt value 2) (eqb offset 0x06 && bitAt value 0) false
+    → StepsOf n c ans.done (eqb offset 0x08 && bitAt value 2) (eqb offset 0x06 && bitAt value 0) false false
     (registerEffect c offset value .sequencer)
 unfolding registerEffect
 register-steps n c offset value =
     by-offset
     (λ (x : ℕ).
-    StepsOf n c ans.done (eqb x 0x08 && bitAt value 2) (eqb x 0x06 && bitAt value 0) false (registerEffect c x value .sequencer))
+    StepsOf n c ans.done (eqb x 0x08 && bitAt value 2) (eqb x 0x06 && bitAt value 0) false false (registerEffect c x value .sequencer))
     offset
     (same-steps n c ans.done (c .sequencer) (refl, refl) refl)
     (reset-if n c (bitAt value 0))
@@ -66,10 +68,25 @@ unfolding mainTaken
 taken-sequencer c true = refl
 taken-sequencer c false = refl
 
-pub read-sequencer : (c : Channel) (offset : ℕ) → readEffect c offset .sequencer ≡ c .sequencer
+-- a read of 0C clears its count, and any other leaves the sequencer
+pub read-sequencer : (c : Channel) (offset : ℕ)
+    → readEffect c offset .sequencer ≡ cond (eqb offset 0x0c) (withMissing (c .sequencer) 0) (c .sequencer)
 unfolding readEffect
 read-sequencer c offset =
-    either (Has (c .sequencer)) (eqb offset 0x02) refl (either (Has (c .sequencer)) (eqb offset 0x04) refl refl)
+    by-test P (eqb offset 0x02) (λ e. other 0x02 e (λ f. omega arith))
+    (λ e. by-test P (eqb offset 0x04) (λ f. other 0x04 f (λ g. omega arith)) (λ f. cleared (eqb offset 0x0c)))
+  where
+    P : Channel → Type 0
+    P x = x .sequencer ≡ cond (eqb offset 0x0c) (withMissing (c .sequencer) 0) (c .sequencer)
+
+    other : (k : ℕ) → eqb offset k ≡ true → (k ≡ 0x0c → ⊥) → c .sequencer ≡ cond (eqb offset 0x0c) (withMissing (c .sequencer) 0) (c .sequencer)
+    other k e differs =
+        rw (ne-eqb offset 0x0c (λ f. differs (sym (eqb-true offset k e) ∙ f)))
+
+    cleared : (b : Bool)
+        → cond b (withSequencer c (withMissing (c .sequencer) 0)) c .sequencer ≡ cond b (withMissing (c .sequencer) 0) (c .sequencer)
+    cleared true = refl
+    cleared false = refl
 
 pub main-sequencer : (c : Channel) (offset : ℕ) → mainRead c offset .sequencer ≡ c .sequencer
 main-sequencer c offset =
@@ -84,12 +101,12 @@ main-plain c offset = go (eqb offset 0x28) (eqb offset 0x2a)
     go false true = (refl, refl)
     go false false = (refl, refl)
 
-user-steps : (o : OneChannel) (user : ℕ) → StepsOf (o .n) (o .channel) ans.done false false (not (eqb user (o .user))) (userChange o user .channel .sequencer)
+user-steps : (o : OneChannel) (user : ℕ) → StepsOf (o .n) (o .channel) ans.done false false (not (eqb user (o .user))) false (userChange o user .channel .sequencer)
 unfolding userChanged idled
 user-steps o user = go (eqb user (o .user))
   where
     go : (b : Bool)
-        → StepsOf (o .n) (o .channel) ans.done false false (not b)
+        → StepsOf (o .n) (o .channel) ans.done false false (not b) false
         (cond b o (call.withUser (call.withChannel o (userChanged (o .channel))) user) .channel .sequencer)
     go true = same-steps (o .n) (o .channel) ans.done (o .channel .sequencer) (refl, refl) refl
     go false = idle-steps (o .n) (o .channel .sequencer) (o .channel .sequencer .armed) false
@@ -105,10 +122,12 @@ period-some clock = go (eqb clock 0) (eqb clock 1) (eqb clock 2)
 
 -- what a call does that is not refused
 effect-steps : (o : OneChannel) (k : ChannelCall) → ApartIn (o .channel)
-    → StepsOf (o .n) (o .channel) (answer o k) (asks o k .groupEnd) (asks o k .reset) (asks o k .idle) (effect o k .channel .sequencer)
+    → StepsOf (o .n) (o .channel) (answer o k) (asks o k .groupEnd) (asks o k .reset) (asks o k .idle) (asks o k .reads 0x0c) (effect o k .channel .sequencer)
 unfolding effect answer armedOf disarmedOf disarmed idled tickOf tickAnswer
 effect-steps o (call.writeRegister lent offset value) p = register-steps (o .n) (o .channel) offset value
-effect-steps o (call.readRegister offset) p = same-steps (o .n) (o .channel) _ _ (refl, refl) (read-sequencer (o .channel) offset)
+effect-steps o (call.readRegister offset) p =
+    subst (λ (t : Sequencer). StepsOf (o .n) (o .channel) (ans.value (readValue (o .channel) offset)) false false false (eqb offset 0x0c) t)
+    (sym (read-sequencer (o .channel) offset)) (read-steps (o .n) (o .channel) _ (eqb offset 0x0c) (refl, refl))
 effect-steps o (call.writeSetpoint lent user buffer index word) p = same-steps (o .n) (o .channel) _ _ (refl, refl) refl
 effect-steps o call.arm p = kept-steps (o .n) (o .channel) _ _ (refl, refl) (keeps-armed (o .channel .sequencer))
 effect-steps o call.disarm p = idle-steps (o .n) (o .channel .sequencer) false false
@@ -127,8 +146,8 @@ effect-steps o (call.readMain offset) p =
 
 -- any call
 pub steps : (o : OneChannel) (k : ChannelCall) → ApartIn (o .channel)
-    → StepsOf (o .n) (o .channel) (response o k) (endsGroup (entry o k)) (resets (entry o k)) (stops (entry o k)) (transition o k .channel .sequencer)
+    → StepsOf (o .n) (o .channel) (response o k) (endsGroup (entry o k)) (resets (entry o k)) (stops (entry o k)) (readsAt 0x0c (entry o k)) (transition o k .channel .sequencer)
 steps o k p =
-    by-refusal (λ (x : OneChannel) (a : Answer) (b c d : Bool). StepsOf (o .n) (o .channel) a b c d (x .channel .sequencer)) o k
+    by-refusal (λ (x : OneChannel) (a : Answer) (b c d : Bool) (r : ℕ → Bool). StepsOf (o .n) (o .channel) a b c d (r 0x0c) (x .channel .sequencer)) o k
     (λ e. effect-steps o k p)
     (same-steps (o .n) (o .channel) _ _ (refl, refl) refl)

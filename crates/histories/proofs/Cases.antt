@@ -5,7 +5,7 @@ use mathlib.Core.Bool.{Bool, true, false}
 use lib.Dec.{eqb}
 use borrow.Author.Tests.{eqb-true}
 
-at-or-not : (P : ℕ → Type 0) (a x : ℕ) → P a → (eqb x a ≡ false → P x) → P x
+pub at-or-not : (P : ℕ → Type 0) (a x : ℕ) → P a → (eqb x a ≡ false → P x) → P x
 at-or-not P a x h g = go (eqb x a) refl
   where
     go : (b : Bool) → eqb x a ≡ b → P x

@@ -219,7 +219,13 @@ command-ticks n m setpoints readbacks ks =
 pub reads-commands : (c : OneChannel) (offset : ℕ) → 0xe0 ≤ offset → readValue (c .channel) offset ≡ cmd.loaded (c .channel .commands) offset
 unfolding readValue
 reads-commands c offset h =
-    rw (ne-eqb offset 0x00 (λ e. omega arith), ne-eqb offset 0x02 (λ e. omega arith), ne-eqb offset 0x04 (λ e. omega arith), le-leb 0xe0 offset h)
+    rw (
+      ne-eqb offset 0x00 (λ e. omega arith),
+      ne-eqb offset 0x02 (λ e. omega arith),
+      ne-eqb offset 0x04 (λ e. omega arith),
+      ne-eqb offset 0x0c (λ e. omega arith),
+      le-leb 0xe0 offset h,
+    )
 
 pub commands-read : CommandsRead
 unfolding refusalOf answer

@@ -1,4 +1,5 @@
 -- No call changes the depths. Assumes nothing.
+use Prim.Native.Nat.{ℕ}
 use mathlib.Core.Path.{_≡_, refl, _∙_}
 use mathlib.Core.Bool.{Bool, true, false, cond}
 use mathlib.Core.List.{List, [], _∷_}
@@ -32,7 +33,7 @@ depths-effect o (call.writeMain lent offset value) = (refl, refl)
 depths-effect o (call.readMain offset) = (refl, refl)
 
 pub depths-step : (o : OneChannel) (k : ChannelCall) → SameDepths o (transition o k)
-depths-step o k = by-refusal (λ (x : OneChannel) (a : Answer) (b c d : Bool). SameDepths o x) o k (λ e. depths-effect o k) (refl, refl)
+depths-step o k = by-refusal (λ (x : OneChannel) (a : Answer) (b c d : Bool) (r : ℕ → Bool). SameDepths o x) o k (λ e. depths-effect o k) (refl, refl)
 
 pub depths-kept : (o : OneChannel) (ks : List ChannelCall) → SameDepths o (transitions o ks)
 depths-kept o [] = (refl, refl)

@@ -65,4 +65,4 @@ ended-effect o (call.readMain offset) e = clash e
 
 pub ended-step : (o : OneChannel) (k : ChannelCall) → endsGroup (entry o k) ≡ true → Ended (o .channel) (transition o k .channel)
 ended-step o k =
-    by-refusal (λ (x : OneChannel) (a : Answer) (b c d : Bool). b ≡ true → Ended (o .channel) (x .channel)) o k (λ e. ended-effect o k) (λ e. clash e)
+    by-refusal (λ (x : OneChannel) (a : Answer) (b c d : Bool) (r : ℕ → Bool). b ≡ true → Ended (o .channel) (x .channel)) o k (λ e. ended-effect o k) (λ e. clash e)

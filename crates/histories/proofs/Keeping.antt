@@ -194,7 +194,7 @@ module _ (g : Kept) where
   holds-step : (o : OneChannel) (k : ChannelCall) → ChannelInRange (o .m) (o .channel) → HoldsIn o g
       → HoldsIn (transition o k) (keptAfter g (record { entry = entry o k; commands = o .channel .commands }))
   holds-step o k r h =
-      by-refusal (λ (x : OneChannel) (a : Answer) (ends again stops : Bool). HoldsIn x (keptBy g a (takes (o .channel .commands)) ends again (asks o k .word))) o k
+      by-refusal (λ (x : OneChannel) (a : Answer) (ends again stops : Bool) (reads : ℕ → Bool). HoldsIn x (keptBy g a (takes (o .channel .commands)) ends again (asks o k .word))) o k
       (λ e. effect-holds o k r h) (same o h)
 
 -- ---- Lists of calls

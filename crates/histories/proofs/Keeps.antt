@@ -1,4 +1,4 @@
--- Arming, Start and Resume keep the count and the last send, idle no channel, and keep the countdowns in range. Assumes nothing.
+-- Arming, Start and Resume keep both counts and the last send, idle no channel, and keep the countdowns in range. Assumes nothing.
 use Prim.Native.Nat.{ℕ, _≤_, _<_}
 use mathlib.Core.Path.{_≡_, refl, _∙_, subst}
 use mathlib.Core.Bool.{Bool, true, false}
@@ -18,18 +18,20 @@ use Rattle.histories.specs.Ranges.{CountdownInRange, Countdown}
 
 pub record Keeps (s t : Sequencer) : Type 0 where
   pub count-kept : t .count ≡ s .count
+  pub missing-kept : t .missing ≡ s .missing
   pub last-kept : t .last ≡ s .last
   pub idle-kept : isIdle (t .stage) ≡ true → isIdle (s .stage) ≡ true
   pub index-kept : (n : ℕ) → 1 ≤ n → s .index < n → t .index < n
   pub countdown-kept : Countdown s → Countdown t
 
 pub keeps-all : (s : Sequencer) → Keeps s s
-keeps-all s = record { count-kept = refl; last-kept = refl; idle-kept = λ e. e; index-kept = λ n h i. i; countdown-kept = λ p. p }
+keeps-all s = record { count-kept = refl; missing-kept = refl; last-kept = refl; idle-kept = λ e. e; index-kept = λ n h i. i; countdown-kept = λ p. p }
 
 pub keeps-both : {s t u : Sequencer} → Keeps s t → Keeps t u → Keeps s u
 keeps-both a b =
     record {
       count-kept = b .count-kept ∙ a .count-kept;
+      missing-kept = b .missing-kept ∙ a .missing-kept;
       last-kept = b .last-kept ∙ a .last-kept;
       idle-kept = λ e. a .idle-kept (b .idle-kept e);
       index-kept = λ n h i. b .index-kept n h (a .index-kept n h i);
@@ -41,6 +43,7 @@ unfolding armed
 keeps-armed s =
     record {
       count-kept = refl;
+      missing-kept = refl;
       last-kept = refl;
       idle-kept = λ e. e;
       index-kept = λ n h i. i;
@@ -52,6 +55,7 @@ unfolding started
 keeps-started s delay =
     record {
       count-kept = refl;
+      missing-kept = refl;
       last-kept = refl;
       idle-kept = λ e. clash e;
       index-kept = λ n h i. h;
@@ -66,6 +70,7 @@ keeps-loaded : (s : Sequencer) (k delay : ℕ) → s .stage ≡ stage.Paused k �
 keeps-loaded s k delay e =
     record {
       count-kept = refl;
+      missing-kept = refl;
       last-kept = refl;
       idle-kept = λ f. clash f;
       index-kept = λ n h i. i;

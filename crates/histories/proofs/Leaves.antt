@@ -55,7 +55,8 @@ pub leaves-read : (c : Channel) (offset : ℕ) → Leaves c (readEffect c offset
 unfolding readEffect
 leaves-read c offset =
     either (Leaves c) (eqb offset 0x02) (record { registers = refl; readbacks = refl; commands = refl })
-    (either (Leaves c) (eqb offset 0x04) (record { registers = refl; readbacks = refl; commands = refl }) (leaves-all c))
+    (either (Leaves c) (eqb offset 0x04) (record { registers = refl; readbacks = refl; commands = refl })
+    (either (Leaves c) (eqb offset 0x0c) (record { registers = refl; readbacks = refl; commands = refl }) (leaves-all c)))
 
 leaves-taken : (c : Channel) (polling : Bool) → Leaves c (mainTaken c polling)
 unfolding mainTaken

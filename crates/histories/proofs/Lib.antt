@@ -16,6 +16,8 @@ pub mod Ended
 pub mod Counting
 pub mod Showing
 pub mod Windows
+pub mod Flags
+pub mod Missing
 pub mod Statuses
 pub mod Buffers
 pub mod Holding

@@ -1,24 +1,26 @@
 -- Status, registers, stored readback counts and command frames stay in range through what a channel does. Assumes nothing.
 use Prim.Native.Nat.{ℕ, zero, suc, _≤_}
 use mathlib.Core.Path.{_≡_, refl, sym, _∙_, ap}
-use mathlib.Core.Bool.{Bool, true, false, not}
+use mathlib.Core.Logic.{_⊎_, inl, inr}
+use mathlib.Core.Bool.{Bool, true, false, not, or-true}
 use mathlib.Core.List.{List, [], _∷_}
 use native.Mathlib.Omega.{arith}
 use lib.ListN.{length, getD, set, replicate, length-set}
 use lib.Seq.{getD-set-other}
 use lib.Dec.{eqb, ltb}
-use borrow.Author.Tests.{ltb-true}
+use borrow.Author.Tests.{ltb-true, le-leb}
 use Rattle.frame.specs.Frames.{Reading, read, crcRight}
 use Rattle.frame.specs.Frames as frame
 use Rattle.status.specs.declared.Status.{Status}
-use Rattle.status.specs.Latching.{latched, groupEnd, earlyEnd, run, crcError}
+use Rattle.status.specs.Latching.{latched, groupEnd, earlyEnd, run, missingReadback, crcError}
 use Rattle.registers.specs.declared.Registers.{Registers}
 use Rattle.registers.specs.Map.{periodOf, stored, flips}
 use Rattle.registers.specs.Map as reg
+use Rattle.sequencer.specs.declared.LastSend.{LastSend}
 use Rattle.sequencer.specs.declared.Sequencer.{Sequencer}
 use Rattle.sequencer.specs.declared.Transmission.{Transmission}
 use Rattle.sequencer.specs.declared.Transmission.the-variants as transmission
-use Rattle.sequencer.specs.Playing.{isIdle, unfinished}
+use Rattle.sequencer.specs.Playing.{isIdle, unfinished, shortfall}
 use Rattle.readback.specs.declared.Readbacks.{Readbacks}
 use Rattle.readback.specs.declared.Disposition.{Disposition}
 use Rattle.readback.specs.declared.Disposition.the-variants as disposition
@@ -29,7 +31,7 @@ use Rattle.command_frames.specs.Commanding as cmd
 use Rattle.command_frames.proofs.Laws.{taken-few}
 use Rattle.channel_core.specs.declared.Channel.{Channel}
 use Rattle.channel_core.specs.State.{opened, reset, withStatus, withRegisters, withSequencer, withCommands}
-use Rattle.channel_core.specs.Behaviour.{started, startedIf, endedIf, resumedIf, resumedOn, eventOf, commanded, groupEnded, earlyEnded, userChanged, sendStatus, isSetpoint, dueOf, playedOf, tickOf}
+use Rattle.channel_core.specs.Behaviour.{started, startedIf, endedIf, resumedIf, resumedOn, eventOf, commanded, groupEnded, earlyEnded, userChanged, conditionStatus, sendStatus, isSetpoint, dueOf, playedOf, tickOf}
 use Rattle.channel_replies.specs.Replying.{crcStatus, dispositionNow, receivedChannel, replyAs, replyOf}
 use Rattle.channel.specs.Calls.{disarmedOf}
 use Rattle.channel.proofs.Cases.{clash, either, by-test}
@@ -66,10 +68,18 @@ latched-range s bit c h =
 early-range : (s : Status) (q : Sequencer) → StatusInRange s → StatusInRange (earlyEnded s q)
 early-range s q h = either StatusInRange (unfinished q) (latched-range s earlyEnd refl h) h
 
-send-range : (s : Status) (x : Transmission) → Latching x → StatusInRange s → StatusInRange (sendStatus s x)
-send-range s transmission.Nothing l h = h
-send-range s (transmission.Word word k) l h =
-    by-test StatusInRange (eqb k 0) (λ e. h) (λ e. latched-range s k (rw e at l) h)
+-- D15–D7 are conditions
+high-condition : (k : ℕ) → 7 ≤ k → k ≤ 15 → isCondition k ≡ true
+high-condition k low high = rw (le-leb 7 k low, le-leb k 15 high, or-true, or-true)
+
+condition-range : (s : Status) (k : ℕ) → (k ≡ 0) ⊎ ((7 ≤ k) × (k ≤ 15)) → StatusInRange s → StatusInRange (conditionStatus s k)
+condition-range s k (inl e) h = rw e h
+condition-range s k (inr l) h = either StatusInRange (eqb k 0) h (latched-range s k (high-condition k (l .0) (l .1)) h)
+
+send-range : (s : Status) (last : LastSend) (x : Transmission) → Latching x → StatusInRange s → StatusInRange (sendStatus s last x)
+send-range s last transmission.Nothing l h = h
+send-range s last (transmission.Word word k) l h =
+    condition-range _ k l (either StatusInRange (eqb (shortfall last) 0) h (latched-range s missingReadback refl h))
 
 crc-range : (s : Status) (right : Bool) → StatusInRange s → StatusInRange (crcStatus s right)
 crc-range s true h = h
@@ -89,6 +99,7 @@ group-registers r count h =
     record {
       clock = h .clock;
       active = length-flips _ (r .switches) ∙ simp length-set (h .active);
+      id = h .id;
       events = h .events;
       switches = refl;
       delays = h .delays;
@@ -101,18 +112,18 @@ unfolding stored
 stored-range r offset value code h =
     let P = RegistersInRange in
     by-test P (eqb offset 0x0a)
-    (λ e. record { clock = code e; active = h .active; events = h .events; switches = h .switches; delays = h .delays })
+    (λ e. record { clock = code e; active = h .active; id = h .id; events = h .events; switches = h .switches; delays = h .delays })
     (λ e.
     either P (eqb offset 0x14)
-    (record { clock = h .clock; active = h .active; events = h .events; switches = h .switches; delays = h .delays })
+    (record { clock = h .clock; active = h .active; id = omega arith; events = h .events; switches = h .switches; delays = h .delays })
     (either P (ltb offset 0x20) h
     (either P (ltb offset 0x2c)
-    (record { clock = h .clock; active = h .active; events = simp length-set (h .events); switches = h .switches; delays = h .delays })
+    (record { clock = h .clock; active = h .active; id = h .id; events = simp length-set (h .events); switches = h .switches; delays = h .delays })
     (either P (ltb offset 0x30) h
     (either P (ltb offset 0x40)
-    (record { clock = h .clock; active = h .active; events = h .events; switches = simp length-set (h .switches); delays = h .delays })
+    (record { clock = h .clock; active = h .active; id = h .id; events = h .events; switches = simp length-set (h .switches); delays = h .delays })
     (either P (ltb offset 0xe0)
-    (record { clock = h .clock; active = h .active; events = h .events; switches = h .switches; delays = simp length-set (h .delays) })
+    (record { clock = h .clock; active = h .active; id = h .id; events = h .events; switches = h .switches; delays = simp length-set (h .delays) })
     h))))))
 
 -- ---- Command frames
@@ -165,7 +176,7 @@ module _ (m : ℕ) where
   opened-range =
       record {
         status = record { enable = refl; interrupt = none-range; polling = none-range };
-        registers = record { clock = omega arith; active = refl; events = refl; switches = refl; delays = refl };
+        registers = record { clock = omega arith; active = refl; id = omega arith; events = refl; switches = refl; delays = refl };
         readbacks = record { stored = omega arith; retired = omega arith };
         commands = record { count = omega arith; replies = refl };
       }
@@ -228,9 +239,9 @@ module _ (m : ℕ) where
   pub tick-range : (c : Channel) (s : List ℕ) (n user : ℕ) → ChannelInRange m c → ChannelInRange m (tickOf c s n user)
   unfolding tickOf
   tick-range c s n user h =
-      let l = plays-ticked (c .sequencer) (dueOf c s n user) n (periodOf (c .registers .clock)) .latches in
+      let l = plays-ticked (c .sequencer) (dueOf c s n user) n (periodOf (c .registers .clock)) (c .registers .id) .latches in
       with-commands _ _ (ticked-commands (c .commands) (isSetpoint (playedOf c s n user .transmission)) (h .commands))
-      (with-sequencer _ _ (with-status c _ (send-range (c .status) (playedOf c s n user .transmission) l (h .status)) h))
+      (with-sequencer _ _ (with-status c _ (send-range (c .status) (c .sequencer .last) (playedOf c s n user .transmission) l (h .status)) h))
 
   pub disarm-range : (c : Channel) → ChannelInRange m c → ChannelInRange m (disarmedOf c)
   unfolding disarmedOf

@@ -1,7 +1,7 @@
 -- Every call keeps the channel's state in range, and so does any list of calls from an opening. Assumes nothing.
 use Prim.Native.Nat.{ℕ, _*_, _≤_}
 use mathlib.Core.Path.{_≡_, refl, sym, _∙_, ap, subst, subst₂}
-use mathlib.Core.Bool.{Bool, true, false, cond}
+use mathlib.Core.Bool.{Bool, true, false, cond, not, _&&_, _||_}
 use mathlib.Core.List.{List, [], _∷_}
 use native.Mathlib.Omega.{arith}
 use lib.ListN.{length}
@@ -11,18 +11,22 @@ use Rattle.register_map.specs.AccessRule.{channelAccess}
 use Rattle.register_map.specs.AccessRefusals.{writeRefusal}
 use Rattle.status.specs.Bits.{bitAt}
 use Rattle.status.proofs.Laws.{enable-drops}
+use Rattle.sequencer.specs.declared.LastSend.{LastSend}
 use Rattle.sequencer.specs.declared.Sequencer.{Sequencer}
+use Rattle.sequencer.specs.Playing.{missed}
 use Rattle.command_frames.specs.declared.CommandFrames.{CommandFrames}
+use Rattle.command_frames.specs.Commanding.{isDue}
 use Rattle.channel_core.specs.declared.Channel.{Channel}
 use Rattle.channel_core.specs.State as state
-use Rattle.channel_core.specs.Answers.{Answer}
+use Rattle.channel_core.specs.Answers.{Answer, isFrame}
 use Rattle.channel_core.specs.Behaviour.{userChanged}
 use Rattle.channel_registers.specs.Calls.{cannotSend, registerRefusal, registerEffect, readEffect}
 use Rattle.channel.specs.Calls.{outside, armedOf, mainTaken}
-use Rattle.channel.specs.OneChannel.{ChannelCall, OneChannel, oneChannel, lengthRefusal, refusalOf, effect, transition, transitions, mainRead, withUser, withChannel, withReadbacks, userRefusal}
+use Rattle.channel.specs.OneChannel.{ChannelCall, OneChannel, oneChannel, lengthRefusal, refusalOf, effect, transition, response, transitions, mainRead, withUser, withChannel, withReadbacks, userRefusal}
 use Rattle.channel.specs.OneChannel as call
 use Rattle.channel.proofs.Cases.{passed, either}
 use Rattle.channel.proofs.Ranges.{inside}
+use Rattle.histories.specs.History.{entry, resets, readsAt}
 use Rattle.histories.specs.Ranges.{Quiet, SequencerInRange, ChannelInRange, Apart, InRange, CallKeepsRange, StaysInRange}
 use Rattle.histories.proofs.Accepted.{then-passed}
 use Rattle.histories.proofs.Calls.{steps, read-sequencer, main-sequencer}
@@ -71,7 +75,8 @@ unfolding readEffect
 read-range m c offset h =
     let P = ChannelInRange m in
     either P (eqb offset 0x02) (with-status m c _ (record { enable = h .status .enable; interrupt = none-range; polling = h .status .polling }) h)
-    (either P (eqb offset 0x04) (with-status m c _ (record { enable = h .status .enable; interrupt = h .status .interrupt; polling = none-range }) h) h)
+    (either P (eqb offset 0x04) (with-status m c _ (record { enable = h .status .enable; interrupt = h .status .interrupt; polling = none-range }) h)
+    (either P (eqb offset 0x0c) (with-sequencer m c _ h) h))
 
 taken-range : (m : ℕ) (c : Channel) (polling : Bool) → ChannelInRange m c → ChannelInRange m (mainTaken c polling)
 unfolding mainTaken
@@ -83,7 +88,9 @@ same-apart : (c d : Channel) → d .sequencer ≡ c .sequencer → d .commands �
 same-apart c d a b p = subst₂ (λ (f : CommandFrames) (q : Sequencer). Apart f q) (sym b) (sym a) p
 
 read-apart : (c : Channel) (offset : ℕ) → ApartIn c → ApartIn (readEffect c offset)
-read-apart c offset = same-apart c (readEffect c offset) (read-sequencer c offset) (leaves-read c offset .commands)
+read-apart c offset p =
+    subst₂ (λ (f : CommandFrames) (q : Sequencer). Apart f q) (sym (leaves-read c offset .commands)) (sym (read-sequencer c offset))
+    (either (Apart (c .commands)) (eqb offset 0x0c) (record { due = p .due; due-unsent = p .due-unsent; receiving-unsent = p .receiving-unsent }) p)
 
 main-apart : (c : Channel) (offset : ℕ) → ApartIn c → ApartIn (mainRead c offset)
 main-apart c offset = same-apart c (mainRead c offset) (main-sequencer c offset) (leaves-main c offset .commands)
@@ -145,7 +152,7 @@ effect-stays o (call.readMain offset) e = channel-stays o _ (main-range (o .m) (
 
 pub stays : (o : OneChannel) (k : ChannelCall) → Stays o (transition o k)
 stays o k =
-    by-refusal (λ (x : OneChannel) (a : Answer) (b c d : Bool). Stays o x) o k (λ e. effect-stays o k (eqb-true (refusalOf o k) 0 e)) (all-stays o)
+    by-refusal (λ (x : OneChannel) (a : Answer) (b c d : Bool) (r : ℕ → Bool). Stays o x) o k (λ e. effect-stays o k (eqb-true (refusalOf o k) 0 e)) (all-stays o)
 
 -- ---- Command frames and setpoints
 
@@ -169,7 +176,7 @@ effect-apart o (call.readMain offset) e q p = main-apart (o .channel) offset p
 
 apart-step : (o : OneChannel) (k : ChannelCall) → Quiet (o .channel .sequencer) → ApartIn (o .channel) → ApartIn (transition o k .channel)
 apart-step o k q p =
-    by-refusal (λ (x : OneChannel) (a : Answer) (b c d : Bool). ApartIn (x .channel)) o k (λ e. effect-apart o k (eqb-true (refusalOf o k) 0 e) q p) p
+    by-refusal (λ (x : OneChannel) (a : Answer) (b c d : Bool) (r : ℕ → Bool). ApartIn (x .channel)) o k (λ e. effect-apart o k (eqb-true (refusalOf o k) 0 e) q p) p
 
 -- what holds of a channel after any list of calls, whatever the depths and lengths: idle, nothing is sent; setpoints and command frames keep apart
 pub record Ordered (c : Channel) : Type 0 where
@@ -199,6 +206,12 @@ pub channel-from : (o : OneChannel) (ks : List ChannelCall) → ChannelInRange (
 channel-from o [] r = r
 channel-from o (k ∷ ks) r = channel-from (transition o k) ks (channel-step o k r)
 
+-- the count of missing readbacks, cleared or not, after a send or none
+missing-few : (clears sends : Bool) (k : ℕ) (l : LastSend) → k ≤ 255 → cond clears 0 (cond sends (missed k l) k) ≤ 255
+missing-few true sends k l h = omega arith
+missing-few false true k l h = omega arith
+missing-few false false k l h = h
+
 -- one call keeps all in range
 pub range-step : CallKeepsRange
 range-step o k h =
@@ -211,6 +224,10 @@ range-step o k h =
       index-due = t .index-step (h .depth) (h .sequencer .index-due);
       countdown = t .countdown-step (h .sequencer .countdown);
       replies = t .replies-step (h .sequencer .replies);
+      missing =
+          subst (λ (j : ℕ). j ≤ 255) (sym (t .missing-step))
+          (missing-few (resets (entry o k) || readsAt 0x0c (entry o k)) (isFrame (response o k) && not (isDue (o .channel .commands .waiting)))
+          (o .channel .sequencer .missing) (o .channel .sequencer .last) (h .sequencer .missing));
       quiet = t .quiet-step (h .sequencer .quiet);
     }
     in
@@ -241,7 +258,7 @@ stays-in-range n m setpoints readbacks some more s r ks =
       user-to = omega arith;
       channel = opened-range m;
       sequencer =
-          record { index-due = some; countdown = tt; replies = omega arith; quiet = λ e. refl };
+          record { index-due = some; countdown = tt; replies = omega arith; missing = omega arith; quiet = λ e. refl };
       apart = apart-opened;
       setpoint-words = s;
       readback-words = r;

@@ -1,10 +1,11 @@
 -- A tick: what it sends is the last send, it idles nothing, and it keeps the countdowns and the index due in range. Assumes nothing.
 use Prim.Native.Nat.{ℕ, _+_, _-_, _≤_, _<_}
 use mathlib.Core.Path.{_≡_, refl, sym, _∙_, ap}
-use mathlib.Core.Bool.{Bool, true, false, _||_, or-true}
+use mathlib.Core.Logic.{_⊎_, inl, inr}
+use mathlib.Core.Bool.{Bool, true, false}
 use native.Mathlib.Omega.{arith}
-use lib.Dec.{eqb, leb}
-use borrow.Author.Tests.{le-leb, leb-false}
+use lib.Dec.{leb}
+use borrow.Author.Tests.{leb-false}
 use Rattle.status.specs.Bits.{bitAt}
 use Rattle.sequencer.specs.Words.{atEnd, kindOf, stageAfter, indexAfter, conditionOf}
 use Rattle.sequencer.specs.declared.Kind.{Kind}
@@ -19,27 +20,26 @@ use Rattle.sequencer.specs.declared.Ticked.{Ticked}
 use Rattle.sequencer.specs.Playing.{isIdle, quiet, withLeft, withResume, sentAs, sentNext, repeated, advancing, repeating, resuming, tickedAt, ticked}
 use Rattle.channel.proofs.Cases.{clash, either, by-test}
 use Rattle.histories.specs.Windows.{Window}
-use Rattle.histories.specs.Statuses.{isCondition}
 use Rattle.histories.specs.Ranges.{CountdownInRange, Countdown, Quiet}
 
 -- the last send, if any, and the replies after it, as the sequencer holds them
 abbrev pub sendWindow : LastSend → Window
-sendWindow l = record { sent = l .sent; replies = l .replies }
+sendWindow l = record { sent = l .sent; id = l .id; replies = l .replies }
 
 abbrev pub windowOf : Sequencer → Window
 windowOf s = sendWindow (s .last)
 
-abbrev pub windowSent : Transmission → Window → Window
-windowSent transmission.Nothing w = w
-windowSent (transmission.Word word condition) w = record { sent = true; replies = 0 }
+abbrev pub windowSent : ℕ → Transmission → Window → Window
+windowSent id transmission.Nothing w = w
+windowSent id (transmission.Word word condition) w = record { sent = true; id = id; replies = 0 }
 
--- what a send latches, if anything: a condition of the status
+-- what a word latches, if anything: one of D15–D7
 abbrev pub Latching : Transmission → Type 0
 Latching transmission.Nothing = Unit {0}
-Latching (transmission.Word word condition) = (eqb condition 0 || isCondition condition) ≡ true
+Latching (transmission.Word word condition) = (condition ≡ 0) ⊎ ((7 ≤ condition) × (condition ≤ 15))
 
-pub record Plays (n p : ℕ) (s : Sequencer) (t : Ticked) : Type 0 where
-  pub window : windowOf (t .sequencer) ≡ windowSent (t .transmission) (windowOf s)
+pub record Plays (n p id : ℕ) (s : Sequencer) (t : Ticked) : Type 0 where
+  pub window : windowOf (t .sequencer) ≡ windowSent id (t .transmission) (windowOf s)
   pub latches : Latching (t .transmission)
   pub stays-quiet : Quiet s → Quiet (t .sequencer)
   pub index-due : s .index < n → t .sequencer .index < n
@@ -94,15 +94,14 @@ sent-countdown end p kind.Plain a h = h
 sent-countdown end p (kind.Pause k) a h = (h, a .1)
 sent-countdown end p kind.Last a h = h
 
-sent-latches : (end : Bool) (k : Kind) → Asks end k → (eqb (conditionOf k) 0 || isCondition (conditionOf k)) ≡ true
-sent-latches end kind.Plain a = refl
-sent-latches end (kind.Pause k) a =
-    rw (le-leb 7 (7 + k) (omega arith), le-leb (7 + k) 15 (omega (arith, a .1)), or-true, or-true)
-sent-latches end kind.Last a = refl
+sent-latches : (end : Bool) (k : Kind) → Asks end k → (conditionOf k ≡ 0) ⊎ ((7 ≤ conditionOf k) × (conditionOf k ≤ 15))
+sent-latches end kind.Plain a = inl refl
+sent-latches end (kind.Pause k) a = inr (omega arith, omega (arith, a .1))
+sent-latches end kind.Last a = inr (omega arith, omega arith)
 
-plays-sent : (s : Sequencer) (due n p : ℕ) → Plays n p s (sentNext s due n p)
+plays-sent : (s : Sequencer) (due n p id : ℕ) → Plays n p id s (sentNext s due n p id)
 unfolding sentNext sentAs
-plays-sent s due n p =
+plays-sent s due n p id =
     let k = kindOf due (atEnd n (s .index)) in
     let a = asks due (atEnd n (s .index)) in
     record {
@@ -115,8 +114,8 @@ plays-sent s due n p =
 
 -- ---- Waiting, repeating, resuming
 
-plays-wait : (s : Sequencer) (n p l : ℕ) → 1 ≤ l → Plays n p s (quiet (withLeft s l))
-plays-wait s n p l h =
+plays-wait : (s : Sequencer) (n p id l : ℕ) → 1 ≤ l → Plays n p id s (quiet (withLeft s l))
+plays-wait s n p id l h =
     record {
       window = refl;
       latches = tt;
@@ -125,30 +124,30 @@ plays-wait s n p l h =
       countdown = λ g. countdown-left (s .stage) (s .left) (s .resume) l h;
     }
 
-plays-advancing : (s : Sequencer) (due n p : ℕ) → Plays n p s (advancing s due n p)
+plays-advancing : (s : Sequencer) (due n p id : ℕ) → Plays n p id s (advancing s due n p id)
 unfolding advancing
-plays-advancing s due n p =
-    by-test (Plays n p s) (leb (s .left) 1)
-    (λ e. plays-sent s due n p)
-    (λ e. plays-wait s n p (s .left - 1) (omega (arith, leb-false (s .left) 1 e)))
+plays-advancing s due n p id =
+    by-test (Plays n p id s) (leb (s .left) 1)
+    (λ e. plays-sent s due n p id)
+    (λ e. plays-wait s n p id (s .left - 1) (omega (arith, leb-false (s .left) 1 e)))
 
-plays-repeating : (s : Sequencer) (n p : ℕ) → isIdle (s .stage) ≡ false → Plays n p s (repeating s p)
+plays-repeating : (s : Sequencer) (n p id : ℕ) → isIdle (s .stage) ≡ false → Plays n p id s (repeating s p id)
 unfolding repeating repeated
-plays-repeating s n p busy =
-    by-test (Plays n p s) (leb (s .left) 1)
+plays-repeating s n p id busy =
+    by-test (Plays n p id s) (leb (s .left) 1)
     (λ e.
     record {
       window = refl;
-      latches = refl;
+      latches = inl refl;
       stays-quiet = λ q i. clash (sym busy ∙ i);
       index-due = λ i. i;
       countdown = λ g. countdown-left (s .stage) (s .left) (s .resume) p g;
     })
-    (λ e. plays-wait s n p (s .left - 1) (omega (arith, leb-false (s .left) 1 e)))
+    (λ e. plays-wait s n p id (s .left - 1) (omega (arith, leb-false (s .left) 1 e)))
 
 -- a tick less to the end of the resume, then what the tick does
-plays-resume : (s : Sequencer) (n p r : ℕ) (t : Ticked) → 1 ≤ r → Plays n p (withResume s r) t → Plays n p s t
-plays-resume s n p r t h a =
+plays-resume : (s : Sequencer) (n p id r : ℕ) (t : Ticked) → 1 ≤ r → Plays n p id (withResume s r) t → Plays n p id s t
+plays-resume s n p id r t h a =
     record {
       window = a .window;
       latches = a .latches;
@@ -157,29 +156,29 @@ plays-resume s n p r t h a =
       countdown = λ g c. a .countdown g (countdown-resume (s .stage) (s .left) (s .resume) r h c);
     }
 
-plays-quiet : (s : Sequencer) (n p : ℕ) → Plays n p s (quiet s)
-plays-quiet s n p = record { window = refl; latches = tt; stays-quiet = λ q. q; index-due = λ i. i; countdown = λ g c. c }
+plays-quiet : (s : Sequencer) (n p id : ℕ) → Plays n p id s (quiet s)
+plays-quiet s n p id = record { window = refl; latches = tt; stays-quiet = λ q. q; index-due = λ i. i; countdown = λ g c. c }
 
-plays-resuming : (s : Sequencer) (due n p : ℕ) → isIdle (s .stage) ≡ false → Plays n p s (resuming s due n p)
+plays-resuming : (s : Sequencer) (due n p id : ℕ) → isIdle (s .stage) ≡ false → Plays n p id s (resuming s due n p id)
 unfolding resuming
-plays-resuming s due n p busy =
+plays-resuming s due n p id busy =
     let u = withResume s (s .resume - 1) in
-    by-test (Plays n p s) (leb (s .resume) 1)
-    (λ e. plays-sent s due n p)
+    by-test (Plays n p id s) (leb (s .resume) 1)
+    (λ e. plays-sent s due n p id)
     (λ e.
     let more : 1 ≤ s .resume - 1 = omega (arith, leb-false (s .resume) 1 e) in
-    by-test (Plays n p s) (leb (s .resume) 10)
-    (λ f. plays-resume s n p (s .resume - 1) (quiet u) more (plays-quiet u n p))
-    (λ f. plays-resume s n p (s .resume - 1) (repeating u p) more (plays-repeating u n p busy)))
+    by-test (Plays n p id s) (leb (s .resume) 10)
+    (λ f. plays-resume s n p id (s .resume - 1) (quiet u) more (plays-quiet u n p id))
+    (λ f. plays-resume s n p id (s .resume - 1) (repeating u p id) more (plays-repeating u n p id busy)))
 
-pub plays-ticked : (s : Sequencer) (due n p : ℕ) → Plays n p s (ticked s due n p)
+pub plays-ticked : (s : Sequencer) (due n p id : ℕ) → Plays n p id s (ticked s due n p id)
 unfolding ticked
-plays-ticked s due n p = go (s .stage) refl
+plays-ticked s due n p id = go (s .stage) refl
   where
-    go : (g : Stage) → s .stage ≡ g → Plays n p s (tickedAt g s due n p)
-    go stage.Idle e = plays-quiet s n p
-    go stage.Starting e = plays-advancing s due n p
-    go stage.Running e = plays-advancing s due n p
-    go (stage.Paused k) e = plays-repeating s n p (ap isIdle e)
-    go stage.Resuming e = plays-resuming s due n p (ap isIdle e)
-    go stage.Ended e = plays-repeating s n p (ap isIdle e)
+    go : (g : Stage) → s .stage ≡ g → Plays n p id s (tickedAt g s due n p id)
+    go stage.Idle e = plays-quiet s n p id
+    go stage.Starting e = plays-advancing s due n p id
+    go stage.Running e = plays-advancing s due n p id
+    go (stage.Paused k) e = plays-repeating s n p id (ap isIdle e)
+    go stage.Resuming e = plays-resuming s due n p id (ap isIdle e)
+    go stage.Ended e = plays-repeating s n p id (ap isIdle e)

@@ -10,19 +10,22 @@ use Rattle.histories.specs.History.{entry, Told, told, toldOf}
 use Rattle.histories.specs.Windows.{Window, closed, windowAfter, windowSince}
 use Rattle.histories.specs.Commands.{NoSetpointMeanwhile}
 use Rattle.histories.specs.Replying.{WindowHeld}
+use Rattle.histories.specs.Ranges.{ChannelInRange}
 use Rattle.histories.proofs.Ticks.{windowOf}
+use Rattle.histories.proofs.Parts.{opened-range}
 use Rattle.histories.proofs.Calls.{steps}
-use Rattle.histories.proofs.Ranges.{Ordered, ordered-opened, ordered-step, ordered-from}
+use Rattle.histories.proofs.Ranges.{channel-step, Ordered, ordered-opened, ordered-step, ordered-from}
 use Rattle.histories.proofs.Commands.{toldFrom, told-next, commands-told}
 
-window-from : (o : OneChannel) (ks : List ChannelCall) (w : Window) → Ordered (o .channel) → windowOf (o .channel .sequencer) ≡ w
+window-from : (o : OneChannel) (ks : List ChannelCall) (w : Window) → Ordered (o .channel) → ChannelInRange (o .m) (o .channel)
+    → windowOf (o .channel .sequencer) ≡ w
     → windowOf (transitions o ks .channel .sequencer) ≡ windowSince w (toldFrom o ks)
 unfolding windowSince told
-window-from o [] w g h = h
-window-from o (k ∷ ks) w g h =
+window-from o [] w g r h = h
+window-from o (k ∷ ks) w g r h =
     let t : Told = record { entry = entry o k; commands = o .channel .commands } in
-    window-from (transition o k) ks (windowAfter w t) (ordered-step o k g)
-    (steps o k (g .apart) .window-step ∙ ap (λ (x : Window). windowAfter x t) h)
+    window-from (transition o k) ks (windowAfter w t) (ordered-step o k g) (channel-step o k r)
+    (steps o k (g .apart) .window-step (r .registers .id) ∙ ap (λ (x : Window). windowAfter x t) h)
     ∙ ap (windowSince w) (sym (told-next o k ks (g .apart)))
 
 few-replies : (o : OneChannel) (ks : List ChannelCall) → Ordered (o .channel) → o .channel .sequencer .last .replies ≤ 6
@@ -34,7 +37,7 @@ module _ (n m : ℕ) (setpoints readbacks : List ℕ) (ks : List ChannelCall) wh
   pub window-is : windowOf (transitions (oneChannel n m setpoints readbacks) ks .channel .sequencer)
       ≡ windowSince closed (toldOf (oneChannel n m setpoints readbacks) ks)
   unfolding state.opened
-  window-is = window-from (oneChannel n m setpoints readbacks) ks closed ordered-opened refl
+  window-is = window-from (oneChannel n m setpoints readbacks) ks closed ordered-opened (opened-range m) refl
 
 pub window-held : WindowHeld
 unfolding state.opened
@@ -43,6 +46,7 @@ window-held n m setpoints readbacks ks =
     let r = ap (λ (w : Window). w .replies) e in
     record {
       sent = ap (λ (w : Window). w .sent) e;
+      id = ap (λ (w : Window). w .id) e;
       replies = r;
       at-most-six = rw r at (few-replies (oneChannel n m setpoints readbacks) ks ordered-opened (omega arith));
     }

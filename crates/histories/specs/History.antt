@@ -1,7 +1,8 @@
 -- Document 01, 'A channel's life', over what calls ANSWERED. A history: what a channel by itself was called with, in which state, and what it
 -- answered. Laws over histories are stated with these.
--- Document 02, card 1: which of the frames are command frames, and which replies go to E4–FA, told by calls and answers. Of the state before a call
--- only the code of the Group End event, the current user, and what a stored word says of the last send are looked at.
+-- Document 02, card 1: which of the frames are command frames, and which replies go to E4–FA, told by calls and answers. Card 2: the Frame ID that a
+-- frame carries, read from the frame, and which register a call reads. Of the state before a call only the code of the Group End event, the current
+-- user, and what a stored word says of the last send are looked at.
 use Prim.Native.Nat.{ℕ, _+_}
 use mathlib.Core.Bool.{Bool, true, false, cond, not, _&&_, _||_}
 use mathlib.Core.List.{List, [], _∷_}
@@ -81,12 +82,17 @@ pub record Asks : Type 0 where
   pub idle : Bool
   -- the word that a reply brings
   pub word : List ℕ
+  -- a read of the channel's register at this offset
+  pub reads : ℕ → Bool
   -- what it makes of command frames
   pub commands : CommandChange
 
--- none of these but what it makes of command frames: the call ends no group, resets and idles nothing and brings no word
+abbrev pub readsNothing : ℕ → Bool
+readsNothing offset = false
+
+-- none of these but what it makes of command frames: the call ends no group, resets and idles nothing, brings no word and reads no register
 abbrev pub changing : CommandChange → Asks
-changing f = record { groupEnd = false; reset = false; idle = false; word = []; commands = f }
+changing f = record { groupEnd = false; reset = false; idle = false; word = []; reads = readsNothing; commands = f }
 
 -- none of these, whatever else it does
 abbrev pub asksNothing : Asks
@@ -94,13 +100,17 @@ asksNothing = changing leavesCommands
 
 -- one of these alone
 abbrev pub groupEndIf : Bool → Asks
-groupEndIf on = record { groupEnd = on; reset = false; idle = false; word = []; commands = λ a f. cond on (cmd.groupEnded f) f }
+groupEndIf on =
+    record { groupEnd = on; reset = false; idle = false; word = []; reads = readsNothing; commands = λ a f. cond on (cmd.groupEnded f) f }
 
 abbrev pub idleIf : Bool → CommandChange → Asks
-idleIf on f = record { groupEnd = false; reset = false; idle = on; word = []; commands = f }
+idleIf on f = record { groupEnd = false; reset = false; idle = on; word = []; reads = readsNothing; commands = f }
 
 abbrev pub bringing : List ℕ → CommandChange → Asks
-bringing word f = record { groupEnd = false; reset = false; idle = false; word = word; commands = f }
+bringing word f = record { groupEnd = false; reset = false; idle = false; word = word; reads = readsNothing; commands = f }
+
+abbrev pub reading : ℕ → Asks
+reading offset = record { groupEnd = false; reset = false; idle = false; word = []; reads = eqb offset; commands = leavesCommands }
 
 abbrev pub asks : OneChannel → ChannelCall → Asks
 asks o (call.writeRegister lent offset value) =
@@ -109,9 +119,10 @@ asks o (call.writeRegister lent offset value) =
       reset = eqb offset 0x06 && bitAt value 0;
       idle = false;
       word = [];
+      reads = readsNothing;
       commands = writtenBy offset value;
     }
-asks o (call.readRegister offset) = asksNothing
+asks o (call.readRegister offset) = reading offset
 asks o (call.writeSetpoint lent user buffer index word) = asksNothing
 asks o call.arm = asksNothing
 asks o call.disarm = idleIf true (λ a f. cmd.dropped f)
@@ -139,6 +150,25 @@ resets e = cond (isRefused e) false (asks (e .before) (e .call) .reset)
 -- a call that idles without either, and took place
 abbrev pub stops : Entry → Bool
 stops e = cond (isRefused e) false (asks (e .before) (e .call) .idle)
+
+-- a read of the register at this offset that took place
+abbrev pub readsAt : ℕ → Entry → Bool
+readsAt offset e = cond (isRefused e) false (asks (e .before) (e .call) .reads offset)
+
+-- the Frame ID that a frame carries
+abbrev pub idIn : Reading → ℕ
+idIn (frame.refused k) = 0
+idIn (frame.fields id word aux crc) = id
+
+-- the Frame ID of the frame that a tick answered
+abbrev pub sentId : Answer → ℕ
+sentId (ans.refused k) = 0
+sentId (ans.value v) = 0
+sentId (ans.frame f) = idIn (read f)
+sentId ans.kept = 0
+sentId ans.lost = 0
+sentId (ans.part s) = 0
+sentId (ans.other r) = 0
 
 -- ---- Command frames along a history
 

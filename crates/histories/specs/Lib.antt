@@ -6,4 +6,5 @@ pub mod Commands
 pub mod Keeping
 pub mod Replying
 pub mod Statuses
+pub mod Missing
 pub mod Ranges

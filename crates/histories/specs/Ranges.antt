@@ -1,5 +1,6 @@
 -- Document 01, 'The bench and its memory' and 'A channel's life': the ranges of what a channel holds, which it keeps to over any list of calls. So no
 -- default past a list's end or below a range is ever used. Document 02, card 1: nor that of a tick on which a command frame and a setpoint would leave.
+-- Card 2: the count of missing readbacks.
 use Prim.Native.Nat.{ℕ, _*_, _≤_, _<_}
 use mathlib.Core.Path.{_≡_}
 use mathlib.Core.Bool.{Bool, true, false}
@@ -48,6 +49,7 @@ pub record SequencerInRange (n : ℕ) (s : Sequencer) : Type 0 where
   pub index-due : s .index < n
   pub countdown : Countdown s
   pub replies : s .last .replies ≤ 6
+  pub missing : s .missing ≤ 255
   pub quiet : Quiet s
 
 -- one copy of the status: sixteen bits, set only where there is a condition
@@ -63,6 +65,7 @@ pub record StatusInRange (s : Status) : Type 0 where
 pub record RegistersInRange (r : Registers) : Type 0 where
   pub clock : r .clock ≤ 3
   pub active : length (r .active) ≡ 16
+  pub id : r .id < 256
   pub events : length (r .events) ≡ 6
   pub switches : length (r .switches) ≡ 8
   pub delays : length (r .delays) ≡ 40

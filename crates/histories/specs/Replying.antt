@@ -22,9 +22,10 @@ use Rattle.histories.specs.Commands.{commandsOver}
 use Rattle.histories.specs.Windows.{Window, closed, windowSince}
 use Rattle.histories.specs.Keeping.{Kept, keptOver}
 
--- a channel holds what was sent since idle and the replies to it, which are never more than six
+-- a channel holds what was sent since idle, with its Frame ID, and the replies to it, which are never more than six
 pub record HoldsWindow (s : Sequencer) (w : Window) : Type 0 where
   pub sent : s .last .sent ≡ w .sent
+  pub id : s .last .id ≡ w .id
   pub replies : s .last .replies ≡ w .replies
   pub at-most-six : w .replies ≤ 6
 

@@ -1,4 +1,5 @@
--- Document 01, 'A channel's life': "Channel status: D15 RUN, D14 EOF, D13 GE, D12 EE, D11–D8 pauses 4–1, D7 VME pause, D2 CRC.", and no other bit.
+-- Document 01, 'A channel's life': "Channel status: D15 RUN, D14 EOF, D13 GE, D12 EE, D11–D8 pauses 4–1, D7 VME pause, D2 CRC."; document 02,
+-- card 2: "Each shortfall latches D4 of both channel statuses."; and no other bit.
 -- 'Register map': "00 Interrupt Enable (bits FFF7h kept)"; "Other bits written are dropped and read 0."
 use Prim.Native.Nat.{ℕ}
 use mathlib.Core.Path.{_≡_}
@@ -6,13 +7,13 @@ use mathlib.Core.Bool.{Bool, false, not, _&&_, _||_}
 use mathlib.Core.List.{List}
 use lib.Dec.{eqb, leb}
 use Rattle.status.specs.Bits.{bitAt}
-use Rattle.status.specs.Latching.{run, pauseBit, crcError}
+use Rattle.status.specs.Latching.{run, pauseBit, missingReadback, crcError}
 use Rattle.channel_core.specs.Answers.{value}
 use Rattle.channel.specs.OneChannel.{ChannelCall, OneChannel, oneChannel, response, transitions, readRegister}
 
--- D15–D7 and D2; the VME pause is pause 0
+-- D15–D7, D4 and D2; the VME pause is pause 0
 abbrev pub isCondition : ℕ → Bool
-isCondition bit = eqb bit crcError || (leb (pauseBit 0) bit && leb bit run)
+isCondition bit = eqb bit crcError || (eqb bit missingReadback || (leb (pauseBit 0) bit && leb bit run))
 
 -- all but D3
 abbrev pub isEnable : ℕ → Bool

@@ -23,7 +23,7 @@ const ACCESS: [Access; 133] = [
     Access::WriteOnly, // 06 Reset
     Access::WriteOnly, // 08 Commands
     Access::ReadWrite, // 0A Clock
-    Access::None, // 0C
+    Access::ReadOnly, // 0C Missing Readback Count
     Access::ReadOnly, // 0E Active Buffers
     Access::ReadOnly, // 10 Setpoint Count, high byte
     Access::ReadOnly, // 12 Setpoint Count, low word

@@ -1,4 +1,4 @@
--- Laws of one call, for any state: which resume is taken, which word is last, and what the setpoint count takes. Assumes nothing.
+-- Laws of one call, for any state: which resume is taken, which word is last, and what the two counts take. Assumes nothing.
 use Prim.Native.Nat.{ℕ, _+_, _-_, _≤_, min}
 use mathlib.Core.Path.{_≡_, refl, ap, _∙_}
 use mathlib.Core.Bool.{Bool, true, false, cond}
@@ -8,7 +8,7 @@ use borrow.Author.Tests.{eq-eqb, ne-eqb, ltb-true, ltb-false}
 use Rattle.status.specs.Bits.{bitAt}
 use Rattle.sequencer.specs.Words.{kindOf}
 use Rattle.sequencer.specs.Playing.{idled, armed, disarmed, started, loadedResume, resumedAt, resumed, answered, groupEnded, sentNext, sentAs, repeated, quiet, withLeft, withResume, advancing, repeating, resuming, tickedAt, ticked}
-use Rattle.sequencer.specs.Runs.{countAfter, asNumber}
+use Rattle.sequencer.specs.Runs.{countAfter, missingAfter, asNumber}
 use Rattle.sequencer.specs.declared.Kind.the-variants as kind
 use Rattle.sequencer.specs.declared.Stage.{Stage}
 use Rattle.sequencer.specs.declared.Stage.the-variants as stage
@@ -51,76 +51,88 @@ last-bit w false h = rw h
 pub last-place : (w : ℕ) → kindOf w true ≡ kind.Last
 last-place w = refl
 
--- the count after this tick, from c
-abbrev Counts : ℕ → Ticked → Type 0
-Counts c t = t .sequencer .count ≡ countAfter (t .transmission) c
+-- both counts after this tick, from s
+abbrev Counts : Sequencer → Ticked → Type 0
+Counts s t =
+    (t .sequencer .count ≡ countAfter (t .transmission) (s .count))
+    × (t .sequencer .missing ≡ missingAfter (t .transmission) (s .last) (s .missing))
 
-counts-if : (c : ℕ) (e : Bool) (a b : Ticked) → Counts c a → Counts c b → Counts c (cond e a b)
-counts-if c true a b h k = h
-counts-if c false a b h k = k
+counts-if : (s : Sequencer) (e : Bool) (a b : Ticked) → Counts s a → Counts s b → Counts s (cond e a b)
+counts-if s true a b h k = h
+counts-if s false a b h k = k
 
-counts-sent : (s : Sequencer) (due n p : ℕ) → Counts (s .count) (sentNext s due n p)
+counts-sent : (s : Sequencer) (due n p id : ℕ) → Counts s (sentNext s due n p id)
 unfolding sentNext sentAs
-counts-sent s due n p = refl
+counts-sent s due n p id = (refl, refl)
 
-counts-advancing : (s : Sequencer) (due n p : ℕ) → Counts (s .count) (advancing s due n p)
+counts-advancing : (s : Sequencer) (due n p id : ℕ) → Counts s (advancing s due n p id)
 unfolding advancing
-counts-advancing s due n p =
-    counts-if (s .count) (leb (s .left) 1) (sentNext s due n p) (quiet (withLeft s (s .left - 1))) (counts-sent s due n p) refl
+counts-advancing s due n p id =
+    counts-if s (leb (s .left) 1) (sentNext s due n p id) (quiet (withLeft s (s .left - 1))) (counts-sent s due n p id) (refl, refl)
 
-counts-repeating : (s : Sequencer) (p : ℕ) → Counts (s .count) (repeating s p)
+counts-repeating : (s : Sequencer) (p id : ℕ) → Counts s (repeating s p id)
 unfolding repeating repeated
-counts-repeating s p = counts-if (s .count) (leb (s .left) 1) (repeated s p) (quiet (withLeft s (s .left - 1))) refl refl
+counts-repeating s p id = counts-if s (leb (s .left) 1) (repeated s p id) (quiet (withLeft s (s .left - 1))) (refl, refl) (refl, refl)
 
-counts-resuming : (s : Sequencer) (due n p : ℕ) → Counts (s .count) (resuming s due n p)
+counts-resuming : (s : Sequencer) (due n p id : ℕ) → Counts s (resuming s due n p id)
 unfolding resuming
-counts-resuming s due n p =
+counts-resuming s due n p id =
     let t = withResume s (s .resume - 1) in
-    counts-if (s .count) (leb (s .resume) 1) (sentNext s due n p) (cond (leb (s .resume) 10) (quiet t) (repeating t p))
-    (counts-sent s due n p)
-    (counts-if (s .count) (leb (s .resume) 10) (quiet t) (repeating t p) refl (counts-repeating t p))
+    counts-if s (leb (s .resume) 1) (sentNext s due n p id) (cond (leb (s .resume) 10) (quiet t) (repeating t p id))
+    (counts-sent s due n p id)
+    (counts-if s (leb (s .resume) 10) (quiet t) (repeating t p id) (refl, refl) (counts-repeating t p id))
 
-counts-at : (g : Stage) (s : Sequencer) (due n p : ℕ) → Counts (s .count) (tickedAt g s due n p)
-counts-at stage.Idle s due n p = refl
-counts-at stage.Starting s due n p = counts-advancing s due n p
-counts-at stage.Running s due n p = counts-advancing s due n p
-counts-at (stage.Paused k) s due n p = counts-repeating s p
-counts-at stage.Resuming s due n p = counts-resuming s due n p
-counts-at stage.Ended s due n p = counts-repeating s p
+counts-at : (g : Stage) (s : Sequencer) (due n p id : ℕ) → Counts s (tickedAt g s due n p id)
+counts-at stage.Idle s due n p id = (refl, refl)
+counts-at stage.Starting s due n p id = counts-advancing s due n p id
+counts-at stage.Running s due n p id = counts-advancing s due n p id
+counts-at (stage.Paused k) s due n p id = counts-repeating s p id
+counts-at stage.Resuming s due n p id = counts-resuming s due n p id
+counts-at stage.Ended s due n p id = counts-repeating s p id
 
--- 7. A tick that transmits a word counts it, and one that transmits nothing leaves the count.
-pub counts : (s : Sequencer) (due n p : ℕ)
-    → ticked s due n p .sequencer .count ≡ countAfter (ticked s due n p .transmission) (s .count)
+-- 7. A tick that transmits a word counts it, and the readbacks missing after the send before; one that transmits nothing leaves both counts.
+pub counts : (s : Sequencer) (due n p id : ℕ) → Counts s (ticked s due n p id)
 unfolding ticked
-counts s due n p = counts-at (s .stage) s due n p
+counts s due n p id = counts-at (s .stage) s due n p id
 
-loaded-count : (s : Sequencer) (delay : ℕ) (e : Bool) → cond e (loadedResume s delay) s .count ≡ s .count
-loaded-count s delay true = refl
-loaded-count s delay false = refl
+-- both counts stay
+abbrev CountsStay : Sequencer → Sequencer → Type 0
+CountsStay s t = (t .count ≡ s .count) × (t .missing ≡ s .missing)
 
-resumed-count : (g : Stage) (s : Sequencer) (k delay : ℕ) → resumedAt g s k delay .count ≡ s .count
-resumed-count stage.Idle s k delay = refl
-resumed-count stage.Starting s k delay = refl
-resumed-count stage.Running s k delay = refl
-resumed-count (stage.Paused j) s k delay = loaded-count s delay (eqb j k)
-resumed-count stage.Resuming s k delay = refl
-resumed-count stage.Ended s k delay = refl
+loaded-counts : (s : Sequencer) (delay : ℕ) (e : Bool) → CountsStay s (cond e (loadedResume s delay) s)
+loaded-counts s delay true = (refl, refl)
+loaded-counts s delay false = (refl, refl)
 
--- what is no tick leaves the count
-pub count-stays : (s : Sequencer)
-    → (idled s .count ≡ s .count)
-    × (armed s .count ≡ s .count)
-    × (disarmed s .count ≡ s .count)
-    × (answered s .count ≡ s .count)
-    × ((delay : ℕ) → started s delay .count ≡ s .count)
-    × ((k delay : ℕ) → resumed s k delay .count ≡ s .count)
+resumed-counts : (g : Stage) (s : Sequencer) (k delay : ℕ) → CountsStay s (resumedAt g s k delay)
+resumed-counts stage.Idle s k delay = (refl, refl)
+resumed-counts stage.Starting s k delay = (refl, refl)
+resumed-counts stage.Running s k delay = (refl, refl)
+resumed-counts (stage.Paused j) s k delay = loaded-counts s delay (eqb j k)
+resumed-counts stage.Resuming s k delay = (refl, refl)
+resumed-counts stage.Ended s k delay = (refl, refl)
+
+-- what is no tick leaves both
+pub counts-stay : (s : Sequencer)
+    → CountsStay s (idled s)
+    × CountsStay s (armed s)
+    × CountsStay s (disarmed s)
+    × CountsStay s (answered s)
+    × ((delay : ℕ) → CountsStay s (started s delay))
+    × ((k delay : ℕ) → CountsStay s (resumed s k delay))
 unfolding idled armed disarmed answered started resumed
-count-stays s = (refl, refl, refl, refl, λ delay. refl, λ k delay. resumed-count (s .stage) s k delay)
+counts-stay s = (
+  (refl, refl),
+  (refl, refl),
+  (refl, refl),
+  (refl, refl),
+  λ delay. (refl, refl),
+  λ k delay. resumed-counts (s .stage) s k delay,
+)
 
--- but Group End clears it
-pub count-cleared : (s : Sequencer) → groupEnded s .count ≡ 0
-unfolding groupEnded
-count-cleared s = refl
+-- but Group End clears the setpoint count, and it alone
+pub group-end-counts : (s : Sequencer) → (groupEnded s .count ≡ 0) × (groupEnded s .missing ≡ s .missing)
+unfolding groupEnded idled
+group-end-counts s = (refl, refl)
 
 counted-by : (c : ℕ) (e : Bool) → ltb c 0xffffff ≡ e → c ≤ 0xffffff → cond e (c + 1) c ≡ min (c + 1) 0xffffff
 counted-by c true e h = omega (arith, ltb-true c 0xffffff e)

@@ -6,7 +6,8 @@
 --   "the index due and the word it repeats"               index, word
 --   "the last send since idle (if any, and which of first, paused, last it was), the replies after it"   last
 --   "the setpoint count"                                  count
-use Prim.Native.Nat.{ℕ, _+_, _-_}
+-- Document 02, card 2: "The channel record carries the Frame ID of its last setpoint send and this count."   last .id, missing
+use Prim.Native.Nat.{ℕ, _+_, _-_, min}
 use mathlib.Core.Bool.{Bool, true, false, cond, not, _&&_}
 use lib.Dec.{leb, ltb, eqb}
 use Rattle.sequencer.specs.Words.{atEnd, kindOf, stageAfter, indexAfter, conditionOf, pauses, ends}
@@ -56,28 +57,31 @@ isEnded stage.Ended = true
 
 -- "the last send since idle (if any ..)": none
 abbrev pub nothingSent : LastSend
-nothingSent = record { sent = false; first = false; paused = false; last = false; replies = 0 }
+nothingSent = record { sent = false; first = false; paused = false; last = false; id = 0; replies = 0 }
 
 -- "channels disarmed", nothing under way, nothing counted
 abbrev pub opened : Sequencer
 opened =
-    record { armed = false; stage = stage.Idle; left = 0; resume = 0; index = 0; word = 0; last = nothingSent; count = 0 }
+    record { armed = false; stage = stage.Idle; left = 0; resume = 0; index = 0; word = 0; last = nothingSent; count = 0; missing = 0 }
 
 -- the state with one field changed
 abbrev pub withArmed : Sequencer → Bool → Sequencer
-withArmed s armed = record { armed = armed; stage = s .stage; left = s .left; resume = s .resume; index = s .index; word = s .word; last = s .last; count = s .count }
+withArmed s armed = record { armed = armed; stage = s .stage; left = s .left; resume = s .resume; index = s .index; word = s .word; last = s .last; count = s .count; missing = s .missing }
 
 abbrev pub withLeft : Sequencer → ℕ → Sequencer
-withLeft s left = record { armed = s .armed; stage = s .stage; left = left; resume = s .resume; index = s .index; word = s .word; last = s .last; count = s .count }
+withLeft s left = record { armed = s .armed; stage = s .stage; left = left; resume = s .resume; index = s .index; word = s .word; last = s .last; count = s .count; missing = s .missing }
 
 abbrev pub withResume : Sequencer → ℕ → Sequencer
-withResume s resume = record { armed = s .armed; stage = s .stage; left = s .left; resume = resume; index = s .index; word = s .word; last = s .last; count = s .count }
+withResume s resume = record { armed = s .armed; stage = s .stage; left = s .left; resume = resume; index = s .index; word = s .word; last = s .last; count = s .count; missing = s .missing }
 
 abbrev pub withLast : Sequencer → LastSend → Sequencer
-withLast s last = record { armed = s .armed; stage = s .stage; left = s .left; resume = s .resume; index = s .index; word = s .word; last = last; count = s .count }
+withLast s last = record { armed = s .armed; stage = s .stage; left = s .left; resume = s .resume; index = s .index; word = s .word; last = last; count = s .count; missing = s .missing }
 
 abbrev pub withCount : Sequencer → ℕ → Sequencer
-withCount s count = record { armed = s .armed; stage = s .stage; left = s .left; resume = s .resume; index = s .index; word = s .word; last = s .last; count = count }
+withCount s count = record { armed = s .armed; stage = s .stage; left = s .left; resume = s .resume; index = s .index; word = s .word; last = s .last; count = count; missing = s .missing }
+
+abbrev pub withMissing : Sequencer → ℕ → Sequencer
+withMissing s missing = record { armed = s .armed; stage = s .stage; left = s .left; resume = s .resume; index = s .index; word = s .word; last = s .last; count = s .count; missing = missing }
 
 -- "if the channel isn't idle and the last word wasn't sent since its latest Start": idling then is an early end, EE
 abbrev pub unfinished : Sequencer → Bool
@@ -95,6 +99,7 @@ idled s =
       word = 0;
       last = nothingSent;
       count = s .count;
+      missing = s .missing;
     }
 
 -- "Arming an armed channel changes nothing."
@@ -118,6 +123,7 @@ started s delay =
       word = 0;
       last = s .last;
       count = s .count;
+      missing = s .missing;
     }
 
 -- a resume is loaded: the delay, nine silent ticks, and the tick that sends
@@ -132,6 +138,7 @@ loadedResume s delay =
       word = s .word;
       last = s .last;
       count = s .count;
+      missing = s .missing;
     }
 
 -- a resume ends its own pause alone
@@ -151,9 +158,18 @@ resumed s pause delay = resumedAt (s .stage) s pause delay
 abbrev pub counted : ℕ → ℕ
 counted count = cond (ltb count 0xffffff) (count + 1) count
 
--- the word due is sent, of this kind: "After a send the next follows one period later."
-unfoldable pub sentAs : Sequencer → ℕ → ℕ → Kind → Ticked
-sentAs s due period k =
+-- document 02, card 2, of the setpoint send before this one since idle: "If that one carried Frame ID 15h and got fewer than six replies, the
+-- shortfall": how many of the six did not come; 0 where it carried another ID, got six, or there is none
+unfoldable pub shortfall : LastSend → ℕ
+shortfall l = cond (l .sent && eqb (l .id) 0x15) (6 - l .replies) 0
+
+-- the shortfall "is added to the count. The count stays at 255."
+abbrev pub missed : ℕ → LastSend → ℕ
+missed missing l = min (missing + shortfall l) 255
+
+-- the word due is sent, of this kind, with this Frame ID: "After a send the next follows one period later."
+unfoldable pub sentAs : Sequencer → ℕ → ℕ → ℕ → Kind → Ticked
+sentAs s due period id k =
     record {
       sequencer = record {
         armed = s .armed;
@@ -162,19 +178,20 @@ sentAs s due period k =
         resume = 0;
         index = indexAfter k (s .index);
         word = due;
-        last = record { sent = true; first = isStarting (s .stage); paused = pauses k; last = ends k; replies = 0 };
+        last = record { sent = true; first = isStarting (s .stage); paused = pauses k; last = ends k; id = id; replies = 0 };
         count = counted (s .count);
+        missing = missed (s .missing) (s .last);
       };
       transmission = transmission.Word due (conditionOf k);
     }
 
 -- the word due is sent, of the kind that its bits and its index give it
-unfoldable pub sentNext : Sequencer → ℕ → ℕ → ℕ → Ticked
-sentNext s due n period = sentAs s due period (kindOf due (atEnd n (s .index)))
+unfoldable pub sentNext : Sequencer → ℕ → ℕ → ℕ → ℕ → Ticked
+sentNext s due n period id = sentAs s due period id (kindOf due (atEnd n (s .index)))
 
 -- "Repeats send the word kept from its first sending."
-unfoldable pub repeated : Sequencer → ℕ → Ticked
-repeated s period =
+unfoldable pub repeated : Sequencer → ℕ → ℕ → Ticked
+repeated s period id =
     record {
       sequencer = record {
         armed = s .armed;
@@ -183,8 +200,9 @@ repeated s period =
         resume = s .resume;
         index = s .index;
         word = s .word;
-        last = record { sent = true; first = false; paused = isPaused (s .stage); last = isEnded (s .stage); replies = 0 };
+        last = record { sent = true; first = false; paused = isPaused (s .stage); last = isEnded (s .stage); id = id; replies = 0 };
         count = counted (s .count);
+        missing = missed (s .missing) (s .last);
       };
       transmission = transmission.Word (s .word) 0;
     }
@@ -194,34 +212,34 @@ abbrev pub quiet : Sequencer → Ticked
 quiet s = record { sequencer = s; transmission = transmission.Nothing }
 
 -- "The first setpoint leaves on the tick that brings the count to 0."
-unfoldable pub advancing : Sequencer → ℕ → ℕ → ℕ → Ticked
-advancing s due n period = cond (leb (s .left) 1) (sentNext s due n period) (quiet (withLeft s (s .left - 1)))
+unfoldable pub advancing : Sequencer → ℕ → ℕ → ℕ → ℕ → Ticked
+advancing s due n period id = cond (leb (s .left) 1) (sentNext s due n period id) (quiet (withLeft s (s .left - 1)))
 
 -- a paused or last word "repeats each period"
-unfoldable pub repeating : Sequencer → ℕ → Ticked
-repeating s period = cond (leb (s .left) 1) (repeated s period) (quiet (withLeft s (s .left - 1)))
+unfoldable pub repeating : Sequencer → ℕ → ℕ → Ticked
+repeating s period id = cond (leb (s .left) 1) (repeated s period id) (quiet (withLeft s (s .left - 1)))
 
 -- "Repeats go on through that delay, its last tick included; then 9 ticks are silent and the next word leaves on the 10th, restarting the clock."
-unfoldable pub resuming : Sequencer → ℕ → ℕ → ℕ → Ticked
-resuming s due n period =
-    cond (leb (s .resume) 1) (sentNext s due n period)
-    (cond (leb (s .resume) 10) (quiet (withResume s (s .resume - 1))) (repeating (withResume s (s .resume - 1)) period))
+unfoldable pub resuming : Sequencer → ℕ → ℕ → ℕ → ℕ → Ticked
+resuming s due n period id =
+    cond (leb (s .resume) 1) (sentNext s due n period id)
+    (cond (leb (s .resume) 10) (quiet (withResume s (s .resume - 1))) (repeating (withResume s (s .resume - 1)) period id))
 
 -- what a tick does, by what is under way
-abbrev pub tickedAt : Stage → Sequencer → ℕ → ℕ → ℕ → Ticked
-tickedAt stage.Idle s due n period = quiet s
-tickedAt stage.Starting s due n period = advancing s due n period
-tickedAt stage.Running s due n period = advancing s due n period
-tickedAt (stage.Paused k) s due n period = repeating s period
-tickedAt stage.Resuming s due n period = resuming s due n period
-tickedAt stage.Ended s due n period = repeating s period
+abbrev pub tickedAt : Stage → Sequencer → ℕ → ℕ → ℕ → ℕ → Ticked
+tickedAt stage.Idle s due n period id = quiet s
+tickedAt stage.Starting s due n period id = advancing s due n period id
+tickedAt stage.Running s due n period id = advancing s due n period id
+tickedAt (stage.Paused k) s due n period id = repeating s period id
+tickedAt stage.Resuming s due n period id = resuming s due n period id
+tickedAt stage.Ended s due n period id = repeating s period id
 
--- one tick: `due` is the word at the index due of the current user's active buffer, `n` the depth, `period` the clock's
-unfoldable pub ticked : Sequencer → ℕ → ℕ → ℕ → Ticked
-ticked s due n period = tickedAt (s .stage) s due n period
+-- one tick: `due` is the word at the index due of the current user's active buffer, `n` the depth, `period` the clock's, `id` register 14's
+unfoldable pub ticked : Sequencer → ℕ → ℕ → ℕ → ℕ → Ticked
+ticked s due n period id = tickedAt (s .stage) s due n period id
 
 abbrev pub withReplies : LastSend → ℕ → LastSend
-withReplies l replies = record { sent = l .sent; first = l .first; paused = l .paused; last = l .last; replies = replies }
+withReplies l replies = record { sent = l .sent; first = l .first; paused = l .paused; last = l .last; id = l .id; replies = replies }
 
 -- one more reply after the last send; six are counted
 unfoldable pub answered : Sequencer → Sequencer

@@ -1,31 +1,32 @@
 -- Document 01, 'A channel's life', its sends, pauses and resumes over time: ticks in a row and what each of them transmits, of which the laws in proofs/ speak.
--- `words i` is the word at index i of the current user's active buffer, which does not change meanwhile; `n` the depth.
+-- `words i` is the word at index i of the current user's active buffer, which does not change meanwhile; `n` the depth, `id` the Frame ID.
 use Prim.Native.Nat.{ℕ, zero, suc, _+_, _*_, _<_}
 use mathlib.Core.Path.{_≡_}
 use mathlib.Core.Bool.{Bool, true, false}
 use Rattle.sequencer.specs.Words.{atEnd, kindOf, stageAfter, indexAfter, conditionOf}
-use Rattle.sequencer.specs.Playing.{ticked, counted}
+use Rattle.sequencer.specs.Playing.{ticked, counted, missed}
 use Rattle.sequencer.specs.declared.Kind.{Kind}
 use Rattle.sequencer.specs.declared.Stage.{Stage}
 use Rattle.sequencer.specs.declared.Stage.the-variants as stage
+use Rattle.sequencer.specs.declared.LastSend.{LastSend}
 use Rattle.sequencer.specs.declared.Sequencer.{Sequencer}
 use Rattle.sequencer.specs.declared.Transmission.{Transmission}
 use Rattle.sequencer.specs.declared.Transmission.the-variants as transmission
 use Rattle.sequencer.specs.declared.Ticked.{Ticked}
 
 -- one tick, handed the word at the index due
-abbrev pub next : (ℕ → ℕ) → ℕ → ℕ → Sequencer → Ticked
-next words n period s = ticked s (words (s .index)) n period
+abbrev pub next : (ℕ → ℕ) → ℕ → ℕ → ℕ → Sequencer → Ticked
+next words n period id s = ticked s (words (s .index)) n period id
 
 -- the sequencer after k ticks
-unfoldable pub ticks : (ℕ → ℕ) → ℕ → ℕ → Sequencer → ℕ → Sequencer
-ticks words n period s zero = s
-ticks words n period s (suc k) = next words n period (ticks words n period s k) .sequencer
+unfoldable pub ticks : (ℕ → ℕ) → ℕ → ℕ → ℕ → Sequencer → ℕ → Sequencer
+ticks words n period id s zero = s
+ticks words n period id s (suc k) = next words n period id (ticks words n period id s k) .sequencer
 
 -- what the k-th of them transmits, the first being tick 1
-unfoldable pub sends : (ℕ → ℕ) → ℕ → ℕ → Sequencer → ℕ → Transmission
-sends words n period s zero = transmission.Nothing
-sends words n period s (suc k) = next words n period (ticks words n period s k) .transmission
+unfoldable pub sends : (ℕ → ℕ) → ℕ → ℕ → ℕ → Sequencer → ℕ → Transmission
+sends words n period id s zero = transmission.Nothing
+sends words n period id s (suc k) = next words n period id (ticks words n period id s k) .transmission
 
 -- the kind of the word at index i
 abbrev pub kindAt : (ℕ → ℕ) → ℕ → ℕ → Kind
@@ -47,11 +48,11 @@ pub record JustSent (words : ℕ → ℕ) (n period i : ℕ) (s : Sequencer) : T
   pub word-is : s .word ≡ words i
 
 -- the next word to leave is that at index i, on tick k: nothing is sent before it, and it is due till then
-pub record Leaves (words : ℕ → ℕ) (n period : ℕ) (s : Sequencer) (k i : ℕ) : Type 0 where
-  pub silent : (j : ℕ) → j < k → sends words n period s j ≡ transmission.Nothing
-  pub due : (j : ℕ) → j < k → ticks words n period s j .index ≡ i
-  pub sent : sends words n period s k ≡ firstSend words n i
-  pub after : JustSent words n period i (ticks words n period s k)
+pub record Leaves (words : ℕ → ℕ) (n period id : ℕ) (s : Sequencer) (k i : ℕ) : Type 0 where
+  pub silent : (j : ℕ) → j < k → sends words n period id s j ≡ transmission.Nothing
+  pub due : (j : ℕ) → j < k → ticks words n period id s j .index ≡ i
+  pub sent : sends words n period id s k ≡ firstSend words n i
+  pub after : JustSent words n period i (ticks words n period id s k)
 
 -- counting down to the word due
 abbrev pub advances : Stage → Bool
@@ -85,12 +86,17 @@ abbrev pub countAfter : Transmission → ℕ → ℕ
 countAfter transmission.Nothing count = count
 countAfter (transmission.Word word condition) count = counted count
 
+-- the count of missing readbacks after a tick that transmits this, `last` being the send before it
+abbrev pub missingAfter : Transmission → LastSend → ℕ → ℕ
+missingAfter transmission.Nothing last missing = missing
+missingAfter (transmission.Word word condition) last missing = missed missing last
+
 -- how many words a tick that transmits this sends
 abbrev pub asNumber : Transmission → ℕ
 asNumber transmission.Nothing = 0
 asNumber (transmission.Word word condition) = 1
 
 -- how many words the first k ticks send
-unfoldable pub sentBy : (ℕ → ℕ) → ℕ → ℕ → Sequencer → ℕ → ℕ
-sentBy words n period s zero = 0
-sentBy words n period s (suc k) = sentBy words n period s k + asNumber (sends words n period s (suc k))
+unfoldable pub sentBy : (ℕ → ℕ) → ℕ → ℕ → ℕ → Sequencer → ℕ → ℕ
+sentBy words n period id s zero = 0
+sentBy words n period id s (suc k) = sentBy words n period id s k + asNumber (sends words n period id s (suc k))

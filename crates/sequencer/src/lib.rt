@@ -1,11 +1,14 @@
-// Playing a function: arming, the stage, the countdowns, which word is due, what is sent, and the setpoint count.
-// The sequencer knows no register and no memory: the word due and the period are handed in on each tick.
+// Playing a function: arming, the stage, the countdowns, which word is due, what is sent, the setpoint count, and the count of missing readbacks.
+// The sequencer knows no register and no memory: the word due, the period and the Frame ID are handed in on each tick.
 pub mod stages;
 mod ticks;
 mod words;
 
 ghost use mathlib.Core.Path.{_≡_};
-ghost use Rattle.sequencer.specs.Playing.{opened, unfinished, nothingSent, idled, armed, disarmed, started, resumed, answered, groupEnded};
+ghost use Rattle.sequencer.specs.Playing.{opened, unfinished, nothingSent, shortfall, idled, armed, disarmed, started, resumed, answered, groupEnded, withMissing};
+
+// The Frame ID of a send that asks for six readbacks.
+const READBACK_ID: u8 = 0x15;
 
 // What the channel is doing.
 pub enum Stage {
@@ -29,12 +32,13 @@ pub enum Kind {
     Last,
 }
 
-// The last send since idle, if any, what it was, and the replies after it.
+// The last send since idle, if any, what it was, the Frame ID that it carried, and the replies after it.
 pub struct LastSend {
     pub sent: bool,
     pub first: bool,
     pub paused: bool,
     pub last: bool,
+    pub id: u8,
     pub replies: u8,
 }
 
@@ -52,6 +56,8 @@ pub struct Sequencer {
     pub last: LastSend,
     // The setpoint count.
     pub count: u32,
+    // The count of missing readbacks.
+    pub missing: u8,
 }
 
 // What a tick sends: nothing, or a word, with the status bit that it latches (0: none).
@@ -74,8 +80,26 @@ impl LastSend {
             first: false,
             paused: false,
             last: false,
+            id: 0,
             replies: 0,
         }
+    }
+
+    // How many of the six replies are missing after a send that asked for readbacks; none after another send, or no send.
+    pub fn shortfall(self) -> u8
+        ensures { λ r. ⌜ r ≡ shortfall self ⌝ }
+    {
+        if !self.sent {
+            return 0;
+        }
+        if self.id != READBACK_ID {
+            return 0;
+        }
+        let replies = self.replies;
+        if replies < 6 {
+            return 6 - replies;
+        }
+        0
     }
 }
 
@@ -92,6 +116,7 @@ impl Sequencer {
             word: 0,
             last: LastSend::nothing(),
             count: 0,
+            missing: 0,
         }
     }
 
@@ -106,7 +131,7 @@ impl Sequencer {
         !stages::is_ended(stage)
     }
 
-    // The function dropped; armed or not, and the setpoint count, stay.
+    // The function dropped; armed or not, and both counts, stay.
     pub fn idled(self) -> Sequencer
         ensures { λ r. ⌜ r ≡ idled self ⌝ }
     {
@@ -119,6 +144,7 @@ impl Sequencer {
             word: 0,
             last: LastSend::nothing(),
             count: self.count,
+            missing: self.missing,
         }
     }
 
@@ -152,6 +178,7 @@ impl Sequencer {
             word: 0,
             last: last,
             count: self.count,
+            missing: self.missing,
         }
     }
 
@@ -176,6 +203,7 @@ impl Sequencer {
                         word: self.word,
                         last: last,
                         count: self.count,
+                        missing: self.missing,
                     };
                 }
                 self
@@ -199,7 +227,16 @@ impl Sequencer {
         next
     }
 
-    // Group End's share: the function dropped, the count cleared.
+    // The count of missing readbacks cleared.
+    pub fn missing_cleared(self) -> Sequencer
+        ensures { λ r. ⌜ r ≡ withMissing self 0 ⌝ }
+    {
+        let mut next = self;
+        next.missing = 0;
+        next
+    }
+
+    // Group End's share: the function dropped, the setpoint count cleared.
     pub fn group_ended(self) -> Sequencer
         ensures { λ r. ⌜ r ≡ groupEnded self ⌝ }
     {

@@ -7,13 +7,24 @@ use crate::Transmission;
 use crate::stages;
 use crate::words;
 ghost use mathlib.Core.Path.{_≡_};
-ghost use Rattle.sequencer.specs.Playing.{counted, sentNext, repeated, quiet, advancing, repeating, resuming, ticked};
+ghost use Rattle.sequencer.specs.Playing.{counted, missed, sentNext, repeated, quiet, advancing, repeating, resuming, ticked};
 
 // The setpoint count with one more send.
 fn count_up(count: u32) -> u32
     ensures { λ r. ⌜ r ≡ counted count ⌝ }
 {
     if count < 0xff_ffff { count + 1 } else { count }
+}
+
+// The count of missing readbacks with those of the send before.
+fn count_missing(count: u8, last: LastSend) -> u8
+    ensures { λ r. ⌜ r ≡ missed count last ⌝ }
+{
+    let more = last.shortfall();
+    if count < 255 - more {
+        return count + more;
+    }
+    255
 }
 
 // A tick on which nothing leaves.
@@ -28,11 +39,12 @@ fn quiet(sequencer: Sequencer) -> Ticked
 
 impl Sequencer {
     // The word due is sent.
-    fn send_next(self, due: u32, n: u32, period: u32) -> Ticked
-        ensures { λ r. ⌜ r ≡ sentNext self due n period ⌝ }
+    fn send_next(self, due: u32, n: u32, period: u32, id: u8) -> Ticked
+        ensures { λ r. ⌜ r ≡ sentNext self due n period id ⌝ }
     {
         let stage = self.stage;
         let index = self.index;
+        let last = self.last;
         let kind = words::classify(due, words::at_end(n, index));
         Ticked {
             sequencer: Sequencer {
@@ -47,9 +59,11 @@ impl Sequencer {
                     first: stages::is_starting(stage),
                     paused: words::pauses(kind),
                     last: words::ends(kind),
+                    id: id,
                     replies: 0,
                 },
                 count: count_up(self.count),
+                missing: count_missing(self.missing, last),
             },
             transmission: Transmission::Word {
                 word: due,
@@ -59,10 +73,11 @@ impl Sequencer {
     }
 
     // The kept word is sent again.
-    fn repeat(self, period: u32) -> Ticked
-        ensures { λ r. ⌜ r ≡ repeated self period ⌝ }
+    fn repeat(self, period: u32, id: u8) -> Ticked
+        ensures { λ r. ⌜ r ≡ repeated self period id ⌝ }
     {
         let stage = self.stage;
+        let last = self.last;
         Ticked {
             sequencer: Sequencer {
                 armed: self.armed,
@@ -76,9 +91,11 @@ impl Sequencer {
                     first: false,
                     paused: stages::is_paused(stage),
                     last: stages::is_ended(stage),
+                    id: id,
                     replies: 0,
                 },
                 count: count_up(self.count),
+                missing: count_missing(self.missing, last),
             },
             transmission: Transmission::Word {
                 word: self.word,
@@ -88,12 +105,12 @@ impl Sequencer {
     }
 
     // A tick towards the word due.
-    fn advance(self, due: u32, n: u32, period: u32) -> Ticked
-        ensures { λ r. ⌜ r ≡ advancing self due n period ⌝ }
+    fn advance(self, due: u32, n: u32, period: u32, id: u8) -> Ticked
+        ensures { λ r. ⌜ r ≡ advancing self due n period id ⌝ }
     {
         let left = self.left;
         if left <= 1 {
-            return self.send_next(due, n, period);
+            return self.send_next(due, n, period, id);
         }
         let mut next = self;
         next.left = left - 1;
@@ -101,12 +118,12 @@ impl Sequencer {
     }
 
     // A tick towards the next repeat.
-    fn hold(self, period: u32) -> Ticked
-        ensures { λ r. ⌜ r ≡ repeating self period ⌝ }
+    fn hold(self, period: u32, id: u8) -> Ticked
+        ensures { λ r. ⌜ r ≡ repeating self period id ⌝ }
     {
         let left = self.left;
         if left <= 1 {
-            return self.repeat(period);
+            return self.repeat(period, id);
         }
         let mut next = self;
         next.left = left - 1;
@@ -114,33 +131,33 @@ impl Sequencer {
     }
 
     // A tick of a resume: repeats through the delay, then nine silent ticks, then the word due.
-    fn resume_tick(self, due: u32, n: u32, period: u32) -> Ticked
-        ensures { λ r. ⌜ r ≡ resuming self due n period ⌝ }
+    fn resume_tick(self, due: u32, n: u32, period: u32, id: u8) -> Ticked
+        ensures { λ r. ⌜ r ≡ resuming self due n period id ⌝ }
     {
         let resume = self.resume;
         if resume <= 1 {
-            return self.send_next(due, n, period);
+            return self.send_next(due, n, period, id);
         }
         let mut next = self;
         next.resume = resume - 1;
         if resume <= 10 {
             return quiet(next);
         }
-        next.hold(period)
+        next.hold(period, id)
     }
 
-    // One tick. `due` is the word at the index due, `n` the depth of its buffer.
-    pub fn tick(self, due: u32, n: u32, period: u32) -> Ticked
-        ensures { λ r. ⌜ r ≡ ticked self due n period ⌝ }
+    // One tick. `due` is the word at the index due, `n` the depth of its buffer, `id` the Frame ID that a send carries.
+    pub fn tick(self, due: u32, n: u32, period: u32, id: u8) -> Ticked
+        ensures { λ r. ⌜ r ≡ ticked self due n period id ⌝ }
     {
         let stage = self.stage;
         match stage {
             Stage::Idle => quiet(self),
-            Stage::Starting => self.advance(due, n, period),
-            Stage::Running => self.advance(due, n, period),
-            Stage::Paused(_) => self.hold(period),
-            Stage::Resuming => self.resume_tick(due, n, period),
-            Stage::Ended => self.hold(period),
+            Stage::Starting => self.advance(due, n, period, id),
+            Stage::Running => self.advance(due, n, period, id),
+            Stage::Paused(_) => self.hold(period, id),
+            Stage::Resuming => self.resume_tick(due, n, period, id),
+            Stage::Ended => self.hold(period, id),
         }
     }
 }

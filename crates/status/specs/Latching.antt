@@ -23,6 +23,10 @@ earlyEnd = 12
 abbrev pub pauseBit : ℕ → ℕ
 pauseBit k = 7 + k
 
+-- document 02, card 2: "Each shortfall latches D4 of both channel statuses."
+abbrev pub missingReadback : ℕ
+missingReadback = 4
+
 abbrev pub crcError : ℕ
 crcError = 2
 

@@ -16,6 +16,8 @@ pub const EARLY_END: u8 = 12;
 // Pause k, from 1 to 4, has bit VME_PAUSE + k.
 pub const VME_PAUSE: u8 = 7;
 
+pub const MISSING_READBACK: u8 = 4;
+
 pub const CRC_ERROR: u8 = 2;
 
 // One copy of the status (Interrupt or Polling): the latched conditions, and the channel's bit in Main's status of the same name.

@@ -49,13 +49,13 @@ with o s q f = withChannel o (withCommands (withSequencer (withStatus (o .channe
 
 -- one tick of such a channel
 tick-with : (o : OneChannel) (s : Status) (q : Sequencer) (f : CommandFrames)
-    → let x = next (wordAt o) (o .n) (period o) q in
-    transition (with o s q f) (oneTick o) ≡ with o (sendStatus s (x .transmission)) (x .sequencer) (cmd.ticked f (isSetpoint (x .transmission)))
+    → let x = next (wordAt o) (o .n) (period o) (o .channel .registers .id) q in
+    transition (with o s q f) (oneTick o) ≡ with o (sendStatus s (q .last) (x .transmission)) (x .sequencer) (cmd.ticked f (isSetpoint (x .transmission)))
 unfolding tickOf dueOf
 tick-with o s q f = tick-transition (with o s q f) (o .n * 64) refl
 
 response-with : (o : OneChannel) (s : Status) (q : Sequencer) (f : CommandFrames)
-    → response (with o s q f) (oneTick o) ≡ tickLine (o .channel .registers .id) f (next (wordAt o) (o .n) (period o) q .transmission)
+    → response (with o s q f) (oneTick o) ≡ tickLine (o .channel .registers .id) f (next (wordAt o) (o .n) (period o) (o .channel .registers .id) q .transmission)
 unfolding tickAnswer dueOf
 response-with o s q f = tick-response (with o s q f) (o .n * 64) refl
 
@@ -66,7 +66,7 @@ after-suc o k = transitions-more o (oneTick o) k
 -- status, sequencer and command frames alone change
 after-next : (o : OneChannel) (k : ℕ) → after o k ≡ with o (after o k .channel .status) (played o k) (after o k .channel .commands)
     → after o (suc k)
-    ≡ with o (sendStatus (after o k .channel .status) (plays o (suc k))) (played o (suc k)) (cmd.ticked (after o k .channel .commands) (isSetpoint (plays o (suc k))))
+    ≡ with o (sendStatus (after o k .channel .status) (played o k .last) (plays o (suc k))) (played o (suc k)) (cmd.ticked (after o k .channel .commands) (isSetpoint (plays o (suc k))))
 unfolding ticks sends
 after-next o k e =
     after-suc o k ∙ ap (λ (p : OneChannel). transition p (oneTick o)) e ∙ tick-with o (after o k .channel .status) (played o k) (after o k .channel .commands)
@@ -213,7 +213,7 @@ pub sent-after : (o : OneChannel) (k i : ℕ) → JustSent (wordAt o) (o .n) (pe
 sent-after o k i s = subst (λ (p : OneChannel). Sent p i) (sym (after-with o k)) s
 
 -- what leaves on tick k of the sequencer leaves so on the channel
-pub next-setpoint : (o : OneChannel) (k i : ℕ) → 1 ≤ k → Leaves (wordAt o) (o .n) (period o) (o .channel .sequencer) k i → NextSetpoint o k i
+pub next-setpoint : (o : OneChannel) (k i : ℕ) → 1 ≤ k → Leaves (wordAt o) (o .n) (period o) (o .channel .registers .id) (o .channel .sequencer) k i → NextSetpoint o k i
 next-setpoint o k i some l =
     record {
       silent = λ j a b. on-tick o j a ∙ ap (answerOn o j) (l .silent j b);

@@ -101,7 +101,7 @@ module _ (p : OneChannel) (due : isDue (p .channel .commands .waiting) ≡ true)
   where
     nothing : plays p 1 ≡ transmission.Nothing
     unfolding sends ticks
-    nothing = ticked-nothing (p .channel .sequencer) (wordAt p (p .channel .sequencer .index)) (p .n) (period p) apart
+    nothing = ticked-nothing (p .channel .sequencer) (wordAt p (p .channel .sequencer .index)) (p .n) (period p) (p .channel .registers .id) apart
 
     leaves : onTick p 1 ≡ ans.frame (commandFrame (p .channel .commands))
     leaves = on-tick p 1 (omega arith) ∙ ap (answerOn p 1) nothing ∙ rw due

@@ -119,32 +119,32 @@ unfolding resumedIf
 command-taken c on h = rw h
 
 -- the resume counts down in its stage to the tick that sends
-module _ (words : ℕ → ℕ) (n p : ℕ) where
+module _ (words : ℕ → ℕ) (n p id : ℕ) where
   way-at : (t : Sequencer) (x : Bool)
-      → (cond x (quiet t) (repeating t p) .sequencer .stage ≡ t .stage)
-      × (cond x (quiet t) (repeating t p) .sequencer .resume ≡ t .resume)
+      → (cond x (quiet t) (repeating t p id) .sequencer .stage ≡ t .stage)
+      × (cond x (quiet t) (repeating t p id) .sequencer .resume ≡ t .resume)
   way-at t true = (refl, refl)
-  way-at t false = (repeating-same t p .stage-same, repeating-same t p .resume-same)
+  way-at t false = (repeating-same t p id .stage-same, repeating-same t p id .resume-same)
 
   way-turn : (s : Sequencer) → s .stage ≡ stage.Resuming → 1 < s .resume
-      → next words n p s
-      ≡ cond (leb (s .resume) 10) (quiet (withResume s (s .resume - 1))) (repeating (withResume s (s .resume - 1)) p)
+      → next words n p id s
+      ≡ cond (leb (s .resume) 10) (quiet (withResume s (s .resume - 1))) (repeating (withResume s (s .resume - 1)) p id)
   unfolding ticked resuming
   way-turn s at more =
-      ap (λ (g : Stage). tickedAt g s (words (s .index)) n p) at
+      ap (λ (g : Stage). tickedAt g s (words (s .index)) n p id) at
       ∙ ap
       (λ (e : Bool).
-      cond e (sentNext s (words (s .index)) n p)
-      (cond (leb (s .resume) 10) (quiet (withResume s (s .resume - 1))) (repeating (withResume s (s .resume - 1)) p)))
+      cond e (sentNext s (words (s .index)) n p id)
+      (cond (leb (s .resume) 10) (quiet (withResume s (s .resume - 1))) (repeating (withResume s (s .resume - 1)) p id)))
       (lt-leb (s .resume) 1 more)
 
   way : (s : Sequencer) (d j : ℕ) → j < d + 10
-      → (ticks words n p (loadedResume s d) j .stage ≡ stage.Resuming)
-      × (ticks words n p (loadedResume s d) j .resume ≡ d + 10 - j)
+      → (ticks words n p id (loadedResume s d) j .stage ≡ stage.Resuming)
+      × (ticks words n p id (loadedResume s d) j .resume ≡ d + 10 - j)
   unfolding ticks
   way s d zero h = (refl, omega arith)
   way s d (suc j) h =
-      let t = ticks words n p (loadedResume s d) j in
+      let t = ticks words n p id (loadedResume s d) j in
       let k = way s d j (omega arith) in
       let e = way-turn t (k .0) (omega (arith, k .1)) in
       let v = way-at (withResume t (t .resume - 1)) (leb (t .resume) 10) in
@@ -156,7 +156,7 @@ resumes : (o : OneChannel) (k d : ℕ) → o .channel .sequencer .stage ≡ stag
 resumes o k d at some =
     let q = o .channel .sequencer in
     let r = withChannel o (loaded (o .channel) k d) in
-    let l = laws.resume (wordAt o) (o .n) (period o) q k d at some (period-some o) in
+    let l = laws.resume (wordAt o) (o .n) (period o) (o .channel .registers .id) q k d at some (period-some o) in
     record {
       repeats = λ j a b. repeat o r (q .word) (q .left) j a refl refl (l .0 j b);
       silent = λ j a b. on-tick r j (omega arith) ∙ ap (answerOn r j) (l .1 j a b);
@@ -164,8 +164,8 @@ resumes o k d at some =
       done = sent-after r (d + 10) (q .index) (l .3);
       under-way = λ j h.
           ap (λ (x : OneChannel). x .channel .sequencer .stage) (after-with r j)
-          ∙ ap (λ (s : Sequencer). ticks (wordAt o) (o .n) (period o) s j .stage) (resume-taken q k d at)
-          ∙ way (wordAt o) (o .n) (period o) q d j h .0;
+          ∙ ap (λ (s : Sequencer). ticks (wordAt o) (o .n) (period o) (o .channel .registers .id) s j .stage) (resume-taken q k d at)
+          ∙ way (wordAt o) (o .n) (period o) (o .channel .registers .id) q d j h .0;
     }
 
 pub resume-by-event : the.ResumeByEvent

@@ -30,12 +30,12 @@ pub plain-next : the.PlainNext
 plain-next o i sent plain =
     let some = period-some o in
     next-setpoint o (period o) (i + 1) some
-    (laws.plain-next (wordAt o) (o .n) (period o) i (o .channel .sequencer) sent plain some)
+    (laws.plain-next (wordAt o) (o .n) (period o) (o .channel .registers .id) i (o .channel .sequencer) sent plain some)
 
 pub countdown : the.Countdown
 countdown o h some =
     let q = o .channel .sequencer in
-    next-setpoint o (q .left) (q .index) some (laws.countdown (wordAt o) (o .n) (period o) q h some)
+    next-setpoint o (q .left) (q .index) some (laws.countdown (wordAt o) (o .n) (period o) (o .channel .registers .id) q h some)
 
 -- what is kept keeps words, period and frames
 module _ {o p : OneChannel} (k : Keeps o p) where
@@ -84,12 +84,12 @@ series o i h sent plain =
 pub held : the.Held
 held o h loaded j some =
     let q = o .channel .sequencer in
-    repeat o o (q .word) (q .left) j some refl refl (laws.hold (wordAt o) (o .n) (period o) q h loaded (period-some o) j)
+    repeat o o (q .word) (q .left) j some refl refl (laws.hold (wordAt o) (o .n) (period o) (o .channel .registers .id) q h loaded (period-some o) j)
 
 -- after a tick that counts down, or repeats on its last count, ticks are left
-left-repeating : (s : Sequencer) (p : ℕ) → 1 ≤ p → 1 ≤ repeating s p .sequencer .left
+left-repeating : (s : Sequencer) (p id : ℕ) → 1 ≤ p → 1 ≤ repeating s p id .sequencer .left
 unfolding repeating repeated
-left-repeating s p some =
+left-repeating s p id some =
     by-test (λ (t : Ticked). 1 ≤ t .sequencer .left) (leb (s .left) 1) (λ e. some) (λ e. omega (arith, leb-false (s .left) 1 e))
 
 still : (o : OneChannel) → holds (o .channel .sequencer .stage) ≡ true → 1 ≤ o .channel .sequencer .left → (j : ℕ)
@@ -100,15 +100,16 @@ unfolding ticks
 still o h loaded zero s e = rw e (refl, refl, refl, loaded)
 still o h loaded (suc j) s e =
     let p = period o in
+    let id = o .channel .registers .id in
     let q = played o j in
     let k = still o h loaded j q refl in
-    let t = hold-turn (wordAt o) (o .n) p q (ap holds (k .0) ∙ h) in
-    let v = repeating-same q p in
+    let t = hold-turn (wordAt o) (o .n) p id q (ap holds (k .0) ∙ h) in
+    let v = repeating-same q p id in
     rw (e ∙ ap (λ (x : Ticked). x .sequencer) t) (
       v .stage-same ∙ k .0,
       v .index-same ∙ k .1,
       v .word-same ∙ k .2,
-      left-repeating q p (period-some o),
+      left-repeating q p id (period-some o),
     )
 
 pub held-stays : the.HeldStays
@@ -120,4 +121,4 @@ held-stays o h loaded j =
 pub held-word : the.HeldWord
 held-word o i sent stay j some =
     repeat o o (wordAt o i) (period o) j some refl refl
-    (laws.pause-repeats (wordAt o) (o .n) (period o) i (o .channel .sequencer) sent stay (period-some o) j)
+    (laws.pause-repeats (wordAt o) (o .n) (period o) (o .channel .registers .id) i (o .channel .sequencer) sent stay (period-some o) j)

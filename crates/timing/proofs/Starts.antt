@@ -22,8 +22,8 @@ use Rattle.timing.proofs.Calls.{command-transition, event-transition, c
 start-setpoint : (o : OneChannel) (s : Sequencer) (d : ℕ) → o .channel .sequencer ≡ seq.started s d → NextSetpoint o (d + 10) 0
 start-setpoint o s d e =
     next-setpoint o (d + 10) 0 (omega arith)
-    (subst (λ (q : Sequencer). Leaves (wordAt o) (o .n) (period o) q (d + 10) 0) (sym e)
-    (laws.start (wordAt o) (o .n) (period o) s d))
+    (subst (λ (q : Sequencer). Leaves (wordAt o) (o .n) (period o) (o .channel .registers .id) q (d + 10) 0) (sym e)
+    (laws.start (wordAt o) (o .n) (period o) (o .channel .registers .id) s d))
 
 pub start-by-command : the.StartByCommand
 start-by-command o value armed on =

@@ -53,12 +53,12 @@ abbrev pub answerOn : OneChannel → ℕ → Transmission → Answer
 answerOn o j transmission.Nothing = between o j
 answerOn o j (transmission.Word word k) = sendFrame (o .channel .registers .id) (transmission.Word word k)
 
--- the sequencer by itself, handed this channel's words, depth and period: after k ticks, and what its tick j transmits
+-- the sequencer by itself, handed this channel's words, depth, period and Frame ID: after k ticks, and what its tick j transmits
 abbrev pub played : OneChannel → ℕ → Sequencer
-played o k = ticks (wordAt o) (o .n) (period o) (o .channel .sequencer) k
+played o k = ticks (wordAt o) (o .n) (period o) (o .channel .registers .id) (o .channel .sequencer) k
 
 abbrev pub plays : OneChannel → ℕ → Transmission
-plays o j = sends (wordAt o) (o .n) (period o) (o .channel .sequencer) j
+plays o j = sends (wordAt o) (o .n) (period o) (o .channel .registers .id) (o .channel .sequencer) j
 
 -- depths, user, registers (E0, E2 and E4–FA too) and setpoint words are the same: so are its words, period, delays and Frame ID
 pub record Keeps (o p : OneChannel) : Type 0 where

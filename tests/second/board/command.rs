@@ -65,6 +65,7 @@ impl Board {
         ch.commands += 1;
         // "E0 high byte auxiliary bits and low byte Frame ID, E2 data", "built from E0 and E2 at that tick"
         let [auxiliary, id] = ch.w[COMMAND].to_be_bytes();
+        self.watch[c].command_id = id;
         Some(frame(id, ch.w[COMMAND + 1], auxiliary))
     }
 
@@ -105,7 +106,7 @@ impl Board {
 
 /// What the corpus reaches of it.
 impl Board {
-    fn tally_if(&mut self, is: bool, did: Did) {
+    pub(super) fn tally_if(&mut self, is: bool, did: Did) {
         if is {
             self.tally.add(did);
         }

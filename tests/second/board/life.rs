@@ -2,7 +2,7 @@
 //! these are.
 
 use super::Board;
-use crate::channel::{hold, status_of, Function, Hold, Window, ACTIVE, COUNT, EE, ENABLE, GE, ID, RUN, SWITCH};
+use crate::channel::{hold, status_of, Function, Hold, Sent, Window, ACTIVE, COUNT, EE, ENABLE, GE, ID, RUN, SWITCH};
 use crate::frame::frame;
 use crate::tally::Did;
 
@@ -46,6 +46,7 @@ impl Board {
         if !self.ch[c].armed {
             self.tally.add(Did::group_end_disarmed);
         }
+        self.watch_idling(c, Did::missing_idled_by_group_end, Did::missing_kept_over_group_end);
         self.end_function(c, Did::ee_by_group_end);
         self.command_at_group_end(c);
         let (m, user, ch) = (self.m as usize, self.user as usize, &mut self.ch[c]);
@@ -222,6 +223,7 @@ impl Board {
 
     pub(super) fn tick_channel(&mut self, c: usize, setpoints: &[u32]) -> Option<u64> {
         let is_next = self.due(c)?;
+        self.look_back(c, is_next);
         let (now, user) = (self.now, self.user);
         let index = self.ch[c].function.as_ref()?.index;
         let at = self.word_at(c, user, self.ch[c].active_setpoint(user), index);
@@ -241,11 +243,12 @@ impl Board {
             Some(Hold::Pause(_)) => 1 << 30,
             None => 0,
         };
-        f.sent = Some((first | kind | (user - 1) << 26, 0));
+        let id = ch.w[ID] as u8;
+        f.sent = Some(Sent { tag: first | kind | (user - 1) << 26, id, replies: 0 });
         // "The count takes every send, repeats too, and stays at FFFFFFh."
         ch.count = (ch.count + 1).min(0xFF_FFFF);
         // "the register's Frame ID, D15–D0 of the word, auxiliary 0"
-        let sent = frame(ch.w[ID] as u8, word as u16, 0);
+        let sent = frame(id, word as u16, 0);
         if let Some(h) = held.filter(|_| is_next) {
             self.latch_hold(c, h);
         }
@@ -258,6 +261,7 @@ impl Board {
             Hold::Last => Did::eof_latched,
             Hold::Pause(k) => [Did::pause_1, Did::pause_2, Did::pause_3, Did::pause_4, Did::pause_vme][k as usize - 1],
         });
+        self.tally_missing_with_hold(c, h);
         self.latch(c, status_of(h));
     }
 }

@@ -1,7 +1,7 @@
 //! Replies, and the readbacks that are kept of them. Quotations are document 01's.
 
 use super::Board;
-use crate::channel::{Function, Window, CRC};
+use crate::channel::{Function, Sent, Window, CRC};
 use crate::frame::{badly_framed, crc};
 use crate::tally::Did;
 
@@ -21,7 +21,7 @@ impl Board {
             _ if self.ch[c].window == Window::Open => Some(Did::command_reply_seventh),
             None => Some(Did::unasked_idle),
             Some(Function { sent: None, .. }) => Some(Did::unasked_before_send),
-            Some(Function { sent: Some((_, 6)), .. }) => Some(Did::unasked_seventh),
+            Some(Function { sent: Some(Sent { replies: 6, .. }), .. }) => Some(Did::unasked_seventh),
             Some(_) => None,
         }
     }
@@ -66,13 +66,14 @@ impl Board {
             self.tally.add(Did::kept_in_new_start_delay);
         }
         let sent = f.sent.as_mut().unwrap();
-        sent.1 += 1;
+        sent.replies += 1;
         if ch.stored[active] >= m {
             self.tally.add(Did::lost);
+            self.watch[c].lost += 1;
             return Reply::Lost;
         }
         // "D31–D26 describe the last send"
-        let tag = sent.0;
+        let tag = sent.tag;
         readbacks[(2 * c + active) * m + ch.stored[active]] = tag | low;
         ch.stored[active] += 1;
         self.tally.add(Did::kept);

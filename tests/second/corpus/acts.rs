@@ -2,6 +2,7 @@
 
 use super::commands::{command, command_with_full_buffer};
 use super::dice::Dice;
+use super::missing::missing;
 use super::story::{delay, load, reply, ticks, word, Taste, BASE};
 use super::world::{Op, World};
 use crate::board::Peek;
@@ -20,6 +21,10 @@ impl Scene<'_> {
     pub fn at(&self) -> u32 {
         BASE * self.c
     }
+    /// The channel as it has become.
+    pub fn now(&self, world: &World) -> Peek {
+        world.board().peek(self.c as usize - 1)
+    }
 }
 
 pub fn act(world: &mut World, d: &Dice, t: &Taste) {
@@ -29,13 +34,13 @@ pub fn act(world: &mut World, d: &Dice, t: &Taste) {
     let c = d.of(&t.channels);
     let s = Scene { d, t, c, p: world.board().peek(c as usize - 1), user: world.board().user };
     let choice = if !s.p.armed {
-        d.weighed(&[50, 0, 8, 6, 4, 0, 8, 6, 10, 12, 16])
+        d.weighed(&[50, 0, 8, 6, 4, 0, 8, 6, 10, 12, 16, 3])
     } else if s.p.idle {
-        d.weighed(&[2, 50, 8, 4, 4, 0, 10, 4, 12, 8, 25])
+        d.weighed(&[2, 50, 8, 4, 4, 0, 10, 4, 12, 8, 25, 6])
     } else if s.p.pause > 0 {
-        d.weighed(&[1, 4, 24, 18, 4, 35, 3, 2, 5, 4, 6])
+        d.weighed(&[1, 4, 24, 18, 4, 35, 3, 2, 5, 4, 6, 5])
     } else {
-        d.weighed(&[1, 4, 36, 25, 9, 2, 5, 3, 8, 4, 7])
+        d.weighed(&[1, 4, 36, 25, 9, 2, 5, 3, 8, 4, 7, 5])
     };
     match choice {
         0 => world.put(if d.chance(93) { Op::Arm(c) } else { Op::Disarm(c) }, d),
@@ -48,7 +53,8 @@ pub fn act(world: &mut World, d: &Dice, t: &Taste) {
         7 => interruption(world, &s),
         8 => statuses(world, &s),
         9 => any_register(world, &s),
-        _ => command(world, &s),
+        10 => command(world, &s),
+        _ => missing(world, &s),
     }
 }
 
@@ -85,7 +91,7 @@ fn replies(world: &mut World, s: &Scene) {
 /// Replies until the active readback buffer is full, and one or two more.
 fn fill(world: &mut World, s: &Scene) {
     for _ in 0..40 {
-        let p = world.board().peek(s.c as usize - 1);
+        let p = s.now(world);
         if p.idle || p.wait > 400 || world.records() > 6_000 || p.stored as u32 >= world.board().m {
             break;
         }
@@ -94,7 +100,7 @@ fn fill(world: &mut World, s: &Scene) {
         }
         for _ in 0..6 {
             // one place left: the end word's
-            if world.board().peek(s.c as usize - 1).stored as u32 + 1 == world.board().m && s.d.chance(40) {
+            if s.now(world).stored as u32 + 1 == world.board().m && s.d.chance(40) {
                 return world.put(Op::Write(s.at() + 8, 4), s.d);
             }
             world.put(Op::Reply(s.c, reply(s.d)), s.d);
@@ -146,8 +152,7 @@ fn resume(world: &mut World, s: &Scene) {
     world.put(op, d);
     // and the ticks around the end of its delay, with a further Resume now and then
     for _ in 0..d.below(4) {
-        let p = world.board().peek(s.c as usize - 1);
-        world.put(ticks(d, s.t, &p), d);
+        world.put(ticks(d, s.t, &s.now(world)), d);
         if d.chance(15) {
             world.put(op, d);
         }
@@ -194,7 +199,7 @@ fn interruption(world: &mut World, s: &Scene) {
 fn statuses(world: &mut World, s: &Scene) {
     for _ in 0..1 + s.d.below(3) {
         let at = s.at();
-        let address = s.d.of(&[at + 2, at + 4, 0x28, 0x2A, at + 0x0E, at + 0x10, at + 0x12]);
+        let address = s.d.of(&[at + 2, at + 4, 0x28, 0x2A, at + 0x0C, at + 0x0E, at + 0x10, at + 0x12]);
         world.put(if s.d.chance(12) { Op::Level } else { Op::Read(address) }, s.d);
     }
     if world.is_script() && s.d.chance(40) {
@@ -229,7 +234,7 @@ fn any_register(world: &mut World, s: &Scene) {
         2 => Op::Write(s.at() + 0x0A, d.of(t.clocks)),
         3 => Op::Write(s.at(), d.of(&[0xFFFF, 0, d.below(65_536) as u16])),
         4 => Op::Write(0x22 + 2 * d.below(3), d.of(&[0xFFFF, 0xF0, 7, 3, d.below(65_536) as u16])),
-        _ => Op::Write(s.at() + 0x14, d.below(65_536) as u16),
+        _ => Op::Write(s.at() + 0x14, d.of(&[0x15, d.below(65_536) as u16])),
     };
     world.put(op, d);
     if world.is_script() && d.chance(12) {

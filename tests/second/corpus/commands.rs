@@ -4,15 +4,10 @@
 use super::acts::{event_for, Scene};
 use super::story::{reply, ticks, BASE};
 use super::world::{Op, World};
-use crate::board::Peek;
-
-fn peek(world: &World, s: &Scene) -> Peek {
-    world.board().peek(s.c as usize - 1)
-}
 
 /// A write to FC: D0, D1, both or neither, now and then with bits that mean nothing. D1 more often where D0 is refused.
 fn ask(world: &World, s: &Scene) -> Op {
-    let p = peek(world, s);
+    let p = s.now(world);
     let often = if p.armed && p.idle { [1, 1, 1, 1, 2, 2] } else { [2, 2, 2, 2, 1, 1] };
     Op::Write(s.at() + 0xFC, s.d.of(&[&often[..], &[1, 2, 3, 0, 0xFFFC, 0xFFFD, 0xFFFE, 0xFFFF]].concat()))
 }
@@ -45,7 +40,7 @@ pub fn command(world: &mut World, s: &Scene) {
     for _ in 0..d.of(&[0, 0, 0, 1, 1, 2, 3]) {
         between(world, s);
     }
-    if peek(world, s).command_awaits_group_end && d.chance(75) {
+    if s.now(world).command_awaits_group_end && d.chance(75) {
         if d.chance(15) {
             world.put(many_ticks(s), d);
         }
@@ -74,7 +69,7 @@ fn between(world: &mut World, s: &Scene) {
         1 => ask(world, s),
         2 => Op::Disarm(s.c),
         // of a disarmed channel too
-        3 if !peek(world, s).armed && d.chance(60) => Op::Disarm(s.c),
+        3 if !s.now(world).armed && d.chance(60) => Op::Disarm(s.c),
         3 => Op::Arm(s.c),
         4 => Op::Write(s.at() + 6, 1),
         5 => Op::User(1 + d.below(s.t.users)),
@@ -106,7 +101,7 @@ fn answered(world: &mut World, s: &Scene) {
             between(world, s);
         }
         if d.chance(3) {
-            world.put(ticks(d, s.t, &peek(world, s)), d);
+            world.put(ticks(d, s.t, &s.now(world)), d);
         }
     }
     for _ in 0..d.of(&[0, 1, 2, 4]) {

@@ -94,7 +94,7 @@ pub fn delay(world: &mut World, d: &Dice, t: &Taste, c: u32, k: u32, user: u32) 
 /// A channel's registers, words and delays, and mostly its arming.
 fn prepare(world: &mut World, d: &Dice, t: &Taste, c: u32) {
     world.put(Op::Write(BASE * c + 0x0A, d.of(t.clocks)), d);
-    world.put(Op::Write(BASE * c + 0x14, d.of(&[0x15, 0x55, d.below(65_536) as u16])), d);
+    world.put(Op::Write(BASE * c + 0x14, d.of(&[0x15, 0x15, 0x55, d.below(65_536) as u16])), d);
     for offset in (0x20..=0x2A).step_by(2) {
         if d.chance(85) {
             let active = if d.chance(92) { 0x100 } else { 0 };
@@ -196,7 +196,7 @@ fn reopen(world: &mut World, d: &Dice) {
                 Op::Set { c, user: 1, buffer: 1, index: 0, word: 1 }, Op::Reply(c, 3), Op::Reply(c, 2), Op::Ticks(3), Op::Event(1),
                 Op::User(2), Op::Level, Op::Retired { c, length: true, lent: 0 }, Op::Retired { c, length: true, lent: 6 },
                 Op::Retired { c, length: false, lent: 0 }, Op::Disarm(c), Op::Write(BASE * c + 0xFC, 1), Op::Write(BASE * c + 0xFC, 2),
-                Op::Write(BASE * c + 0xE0, 0x0315), Op::Read(BASE * c + 0xE0),
+                Op::Write(BASE * c + 0xE0, 0x0315), Op::Read(BASE * c + 0xE0), Op::Read(BASE * c + 0x0C),
             ]);
             world.put(op, d);
         }

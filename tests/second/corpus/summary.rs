@@ -80,12 +80,13 @@ fn refusals(runs: &Reach, calls: &Reach) -> Vec<String> {
     missing
 }
 
-/// Prints what was done, and answers what was not. What command frames do is asked of both kinds of files, which
-/// different programs read.
+/// Prints what was done, and answers what was not. What command frames do, and what is counted of missing readbacks, is
+/// asked of both kinds of files, which different programs read; but no run file opens a second board.
 fn done(runs: &Reach, calls: &Reach) -> Vec<String> {
     let mut missing = Vec::new();
     for ((name, in_runs), in_calls) in DID.iter().zip(&runs.did.0).zip(&calls.did.0) {
-        let is_asked_of_both = name.starts_with("command");
+        let is_of_a_request = name.starts_with("command") || name.starts_with("missing");
+        let is_asked_of_both = is_of_a_request && *name != "missing_cleared_by_opening";
         println!("{name} {in_runs} in run files, {in_calls} in scripts");
         if in_runs + in_calls == 0 || (is_asked_of_both && in_runs * in_calls == 0) {
             missing.push(name.to_string());

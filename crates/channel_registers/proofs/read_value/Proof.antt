@@ -1,4 +1,4 @@
--- `channel_registers::read_value` meets its contract: Interrupt Enable, the two statuses, E0–FE, and the other registers as loaded. Assumes nothing.
+-- `channel_registers::read_value` meets its contract: Interrupt Enable, the two statuses, 0C, E0–FE, and the other registers as loaded. Assumes nothing.
 use Rattle.channel_registers.specs.Calls.{readValue}
 use borrow.Author.Tests.{eq-eqb, ne-eqb, le-leb, lt-leb}
 use borrow.Author.Needs.{needs}
@@ -32,34 +32,50 @@ returns-3 c =
       ne-eqb _ _ (s .before .before .if1 .left),
     )
 
-loaded-requires : tie.Need-loaded-requires
-loaded-requires c κs = search needs
+cast-result : tie.Need-cast-result
+cast-result c = search needs
 
 returns-4 : tie.Need-returns-4
 unfolding readValue
 returns-4 c =
     let s = c .before .before .before in
     simp (
-      c .loaded .ensures,
-      le-leb _ _ (c .before .before .if4 .taken),
+      eq-eqb _ _ (c .before .before .if4 .taken),
       ne-eqb _ _ (s .if3 .left),
       ne-eqb _ _ (s .before .if2 .left),
       ne-eqb _ _ (s .before .before .if1 .left),
     )
 
-loaded-requires-2 : tie.Need-loaded-requires-2
-loaded-requires-2 c κs = search needs
+loaded-requires : tie.Need-loaded-requires
+loaded-requires c κs = search needs
 
 returns-5 : tie.Need-returns-5
 unfolding readValue
 returns-5 c =
     let s = c .before .before .before in
     simp (
+      c .loaded .ensures,
+      le-leb _ _ (c .before .before .if5 .taken),
+      ne-eqb _ _ (s .if4 .left),
+      ne-eqb _ _ (s .before .if3 .left),
+      ne-eqb _ _ (s .before .before .if2 .left),
+      ne-eqb _ _ (s .before .before .before .if1 .left),
+    )
+
+loaded-requires-2 : tie.Need-loaded-requires-2
+loaded-requires-2 c κs = search needs
+
+returns-6 : tie.Need-returns-6
+unfolding readValue
+returns-6 c =
+    let s = c .before .before .before in
+    simp (
       c .loaded2 .ensures,
-      lt-leb _ _ (c .before .before .if4 .left),
-      ne-eqb _ _ (s .if3 .left),
-      ne-eqb _ _ (s .before .if2 .left),
-      ne-eqb _ _ (s .before .before .if1 .left),
+      lt-leb _ _ (c .before .before .if5 .left),
+      ne-eqb _ _ (s .if4 .left),
+      ne-eqb _ _ (s .before .if3 .left),
+      ne-eqb _ _ (s .before .before .if2 .left),
+      ne-eqb _ _ (s .before .before .before .if1 .left),
     )
 
 pub read-value-spec : {M : Type 1} → statement M
@@ -71,7 +87,9 @@ read-value-spec =
     returns-2
     word-of-bits-requires-2
     returns-3
-    loaded-requires
+    cast-result
     returns-4
+    loaded-requires
+    returns-5
     loaded-requires-2
-    returns-5)
+    returns-6)

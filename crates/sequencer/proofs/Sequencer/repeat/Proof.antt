@@ -1,4 +1,4 @@
--- `sequencer::Sequencer::repeat` meets its contract: the kept word is sent, counted, and due again in a period. Assumes nothing.
+-- `sequencer::Sequencer::repeat` meets its contract: the kept word is sent, counted, and due again in a period; what is missing of the send before is counted. Assumes nothing.
 use borrow.Author.Needs.{needs}
 use Rattle.sequencer.specs.Playing.{repeated}
 use Rattle.sequencer.proofs.Sequencer.repeat.Statement.{statement}
@@ -13,9 +13,18 @@ is-ended-requires c κs = search needs
 count-up-requires : tie.Need-count-up-requires
 count-up-requires c κs = search needs
 
+count-missing-requires : tie.Need-count-missing-requires
+count-missing-requires c κs = search needs
+
 returns : tie.Need-returns
 unfolding repeated
-returns c = simp (c .count-up .ensures, c .before .is-ended .ensures, c .before .before .is-paused .ensures)
+returns c =
+    simp (
+      c .count-missing .ensures,
+      c .before .count-up .ensures,
+      c .before .before .is-ended .ensures,
+      c .before .before .before .is-paused .ensures,
+    )
 
 pub repeat-spec : {M : Type 1} → statement M
-repeat-spec = tie.close (tie.spec is-paused-requires is-ended-requires count-up-requires returns)
+repeat-spec = tie.close (tie.spec is-paused-requires is-ended-requires count-up-requires count-missing-requires returns)

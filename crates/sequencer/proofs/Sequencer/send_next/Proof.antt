@@ -10,7 +10,7 @@ use Rattle.sequencer.proofs.Sequencer.send_next.Tie as tie
 
 -- what `classify` found is the kind of the word due
 found : (c : tie.After-classify) →
-    let a = c .before .before .args in
+    let a = c .before .before .before .args in
     c .classify .result ≡ kindOf (a .due) (atEnd (a .n) (a .self .index))
 found c = simp (c .classify .ensures, c .before .at-end .ensures)
 
@@ -25,7 +25,7 @@ stage-after-requires c κs = search needs
 
 index-after-requires : tie.Need-index-after-requires
 index-after-requires c κs =
-    let a = c .before .before .before .args in
+    let a = c .before .before .before .before .args in
     rw (found (c .before)) (index-below (a .due) (a .n) (a .self .index) 4294967296 (omega arith) (omega arith))
 
 is-starting-requires : tie.Need-is-starting-requires
@@ -40,23 +40,27 @@ ends-requires c κs = search needs
 count-up-requires : tie.Need-count-up-requires
 count-up-requires c κs = search needs
 
+count-missing-requires : tie.Need-count-missing-requires
+count-missing-requires c κs = search needs
+
 condition-of-requires : tie.Need-condition-of-requires
 condition-of-requires c κs =
-    let k = c .before .before .before .before .before .before in
-    let a = k .before .before .args in
+    let k = c .before .before .before .before .before .before .before in
+    let a = k .before .before .before .args in
     rw (found k) (omega (arith, condition-at-most (a .due) (atEnd (a .n) (a .self .index))))
 
 returns : tie.Need-returns
 unfolding sentNext sentAs
 returns c =
-    let i = c .before .before .before .before .before in
+    let i = c .before .before .before .before .before .before in
     rw (← found (i .before .before)) (
     simp (
       c .condition-of .ensures,
-      c .before .count-up .ensures,
-      c .before .before .ends .ensures,
-      c .before .before .before .pauses .ensures,
-      c .before .before .before .before .is-starting .ensures,
+      c .before .count-missing .ensures,
+      c .before .before .count-up .ensures,
+      c .before .before .before .ends .ensures,
+      c .before .before .before .before .pauses .ensures,
+      c .before .before .before .before .before .is-starting .ensures,
       i .index-after .ensures,
       i .before .stage-after .ensures,
     )
@@ -74,5 +78,6 @@ send-next-spec =
     pauses-requires
     ends-requires
     count-up-requires
+    count-missing-requires
     condition-of-requires
     returns)
