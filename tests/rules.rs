@@ -48,8 +48,9 @@ const ARCHITECTURE: &str = "docs/ARCHITECTURE.md";
 const RECORDED: &[(&str, &str, usize, &str)] = &[
     (RULES, "document 01", 12836, "fbe055717a213fa1f2da2d30af2a07d97468556963ed01d9a36c4ea7241166e6"),
     (RULES, "card 1", 1096, "cb67ec1f20e0ef75abf3acd962853cf5ae815772bf67221802b1f90b0cc82c4e"),
-    (DECISIONS, "document 01", 8323, "1ff7ee9d0ac34794ad3a1d6b236f5a44dfcb9ec35411bb2f4a99c38ed65f523d"),
-    (DECISIONS, "document 02", 1171, "2ee4baaa8dcaa3582db0e0d1562ae82b46633a20b93c3fcba07e33728afe8fa2"),
+    (RULES, "card 2", 578, "a2db8f172be354d06e8417114973b58e127b28f137c6d03222f5c86e477c6930"),
+    (DECISIONS, "document 01", 8461, "cf5482d3e47841fb87a201edad0c514e7c2afbd3ac5a78ab2b1a3926006fe74e"),
+    (DECISIONS, "document 02", 1500, "db26e19fbf2c4c6901241dda1528027518c4d5d78205d189f2d1a26f9e4f7c38"),
 ];
 
 // The entries of DECISIONS.md that a page cites: "entry D1", "Entry D1", "entries D1 (..) and D2", "entries D1 to D2".

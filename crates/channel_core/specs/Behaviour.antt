@@ -128,18 +128,22 @@ dueOf c s n user = getD s (setpointPlace (user - 1) (bitOf (secondActive (c .reg
 abbrev pub playedOf : Channel → List ℕ → ℕ → ℕ → t.Ticked
 playedOf c s n user = ticked (c .sequencer) (dueOf c s n user) n (periodOf (c .registers .clock)) (c .registers .id)
 
--- card 2: "Each shortfall latches D4 of both channel statuses.", `last` being the send before
-abbrev pub shortStatus : Status → LastSend → Status
-shortStatus s last = cond (eqb (shortfall last) 0) s (latched s missingReadback)
+-- card 2: "Each shortfall latches D4 of both channel statuses."; so many replies are missing, 0 is no shortfall
+abbrev pub shortfallStatus : Status → ℕ → Status
+shortfallStatus s missing = cond (eqb missing 0) s (latched s missingReadback)
 
--- the status with a condition of the word sent; 0 is none
+-- the status with a condition of a word that was sent; 0 is none
 abbrev pub conditionStatus : Status → ℕ → Status
 conditionStatus s k = cond (eqb k 0) s (latched s k)
 
--- the status with what a send latches: it "first looks at the setpoint send before it since idle"
+-- what is latched for a shortfall and for a word
+abbrev pub latchedBy : Status → ℕ → ℕ → Status
+latchedBy s missing k = conditionStatus (shortfallStatus s missing) k
+
+-- the status with what a send latches: it "first looks at the setpoint send before it since idle", which is `last`
 abbrev pub sendStatus : Status → LastSend → Transmission → Status
 sendStatus s last transmission.Nothing = s
-sendStatus s last (transmission.Word word k) = conditionStatus (shortStatus s last) k
+sendStatus s last (transmission.Word word k) = latchedBy s (shortfall last) k
 
 -- "Setpoint frames carry the register's Frame ID, D15–D0 of the word, auxiliary 0."
 abbrev pub sendFrame : ℕ → Transmission → Answer
@@ -150,6 +154,11 @@ sendFrame id (transmission.Word word k) = ans.frame (encoded id (word % 65536) 0
 abbrev pub isSetpoint : Transmission → Bool
 isSetpoint transmission.Nothing = false
 isSetpoint (transmission.Word word k) = true
+
+-- the condition of the word that leaves; 0: none
+abbrev pub conditionIn : Transmission → ℕ
+conditionIn transmission.Nothing = 0
+conditionIn (transmission.Word word k) = k
 
 -- the command frame that is due, or none
 abbrev pub commandAnswer : CommandFrames → Answer

@@ -15,7 +15,7 @@ ghost use Rattle.frame.specs.Frames.{encoded};
 ghost use Rattle.status.specs.Bits.{bitOf};
 ghost use Rattle.channel_core.specs.Answers.{lineOf};
 ghost use Rattle.channel_core.specs.State.{opened, reset};
-ghost use Rattle.channel_core.specs.Behaviour.{started, earlyEnded, userChanged, groupEnded, endedIf, endedWords, startedIf, resumedIf, resumedOn, eventOf, eventWords, commanded, commandWords, setpointPlace, dueOf, shortStatus, sendStatus, isSetpoint, commandAnswer, tickLine, tickOf, tickAnswer};
+ghost use Rattle.channel_core.specs.Behaviour.{started, earlyEnded, userChanged, groupEnded, endedIf, endedWords, startedIf, resumedIf, resumedOn, eventOf, eventWords, commanded, commandWords, setpointPlace, dueOf, shortfallStatus, latchedBy, sendStatus, isSetpoint, commandAnswer, tickLine, tickOf, tickAnswer};
 
 pub struct Channel {
     pub status: Status,
@@ -70,28 +70,35 @@ fn early_ended(status: Status, sequencer: Sequencer) -> Status
     status
 }
 
-// The status as the next setpoint is sent: whether readbacks are missing after the send before it.
-fn short_status(status: Status, last: LastSend) -> Status
-    ensures { λ r. ⌜ r ≡ shortStatus status last ⌝ }
+// The status with D4 latched, if so many missing replies are any.
+fn shortfall_status(status: Status, missing: u8) -> Status
+    ensures { λ r. ⌜ r ≡ shortfallStatus status missing ⌝ }
 {
-    if last.shortfall() == 0 {
+    if missing == 0 {
         return status;
     }
     status.latched(status::MISSING_READBACK)
 }
 
+// The status with what is latched for missing replies, and for the condition of a word (0: none).
+pub fn latched_by(status: Status, missing: u8, condition: u8) -> Status
+    ensures { λ r. ⌜ r ≡ latchedBy status missing condition ⌝ }
+{
+    let with_missing = shortfall_status(status, missing);
+    if condition == 0 {
+        return with_missing;
+    }
+    with_missing.latched(condition)
+}
+
 // The status with what a send latches, `last` being the send before it.
-pub fn send_status(status: Status, last: LastSend, sent: Transmission) -> Status
+fn send_status(status: Status, last: LastSend, sent: Transmission) -> Status
     ensures { λ r. ⌜ r ≡ sendStatus status last sent ⌝ }
 {
     match sent {
         Transmission::Nothing => status,
         Transmission::Word { word: _, condition } => {
-            let looked_back = short_status(status, last);
-            if condition == 0 {
-                return looked_back;
-            }
-            looked_back.latched(condition)
+            latched_by(status, last.shortfall(), condition)
         }
     }
 }

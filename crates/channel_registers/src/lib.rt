@@ -142,7 +142,7 @@ fn read_value(c: Channel, offset: u16) -> u16
     registers.loaded(offset)
 }
 
-// A status read clears that copy, a read of the count of missing readbacks that count.
+// A status read clears that copy; a read of 0C clears the count of missing readbacks.
 fn read_effect(c: Channel, offset: u16) -> Channel
     ensures { λ r. ⌜ r ≡ readEffect c offset ⌝ }
 {

@@ -1,3 +1,4 @@
 pub mod QuietTicks
 pub mod Captures
+pub mod Once
 pub mod TicksInRow

@@ -96,7 +96,7 @@ quiet-none s = none-at (s .stage) s
 
 -- ---- The next tick sends exactly where none is quiet
 
-ne-some : (k : ℕ) → eqb k 0 ≡ false → 0 < k
+pub ne-some : (k : ℕ) → eqb k 0 ≡ false → 0 < k
 ne-some zero e = let z : _≡_ {A = ℕ} 0 1 = cc in absurd (omega arith)
 ne-some (suc k) e = omega arith
 

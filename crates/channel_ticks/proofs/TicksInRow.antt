@@ -1,7 +1,8 @@
 -- Ticks in a row of a channel, of any memory, depth and user: a quiet tick only counts down and answers no frame, and so do as many as are quiet.
 -- Assumes nothing.
 use Prim.Native.Nat.{ℕ, zero, suc, _+_, _-_, _≤_, _<_}
-use mathlib.Core.Path.{_≡_, refl, sym, ap, _∙_}
+use mathlib.Core.Path.{_≡_, refl, sym, ap, subst, _∙_}
+use mathlib.Core.Logic.{inl, inr}
 use mathlib.Core.Bool.{Bool, true, false, cond, _&&_, and-false, and-eq-true-iff}
 use mathlib.Core.List.{List, []}
 use native.Mathlib.Omega.{arith}
@@ -9,28 +10,29 @@ use native.Mathlib.Nat.{zero-add, add-zero, add-suc, add-assoc}
 use native.Mathlib.Numerals.{add-one}
 use lib.ListN.{getD, set}
 use borrow.Author.Tests.{lt-ltb, not-true}
-use Rattle.status.specs.declared.Status.{Status}
 use Rattle.status.specs.Bits.{bitOf}
 use Rattle.registers.specs.Map.{periodOf, secondActive}
 use Rattle.sequencer.specs.declared.Sequencer.{Sequencer}
 use Rattle.sequencer.specs.declared.Transmission.{Transmission}
 use Rattle.sequencer.specs.declared.Transmission.the-variants as transmission
 use Rattle.sequencer.specs.declared.Ticked as t
-use Rattle.sequencer.specs.Playing.{ticked}
-use Rattle.sequencer.specs.Runs.{asNumber}
+use Rattle.sequencer.specs.Playing.{ticked, withMissing, missingWith}
+use Rattle.sequencer.specs.Runs.{holds, asNumber, missingAfter}
+use Rattle.sequencer.proofs.Moves.{counts}
 use Rattle.channel_core.specs.declared.Channel.{Channel}
 use Rattle.channel_core.specs.Answers.{Answer, isFrame}
 use Rattle.channel_core.specs.Answers as ans
 use Rattle.channel_core.specs.State.{withStatus, withSequencer, withCommands}
-use Rattle.channel_core.specs.Behaviour.{setpointPlace, dueOf, playedOf, sendStatus, isSetpoint, sendFrame, tickLine, tickOf, tickAnswer}
+use Rattle.channel_core.specs.Behaviour.{setpointPlace, dueOf, playedOf, latchedBy, sendStatus, isSetpoint, sendFrame, tickLine, tickOf, tickAnswer}
 use Rattle.command_frames.specs.declared.CommandFrames.{CommandFrames}
 use Rattle.command_frames.specs.Commanding.{isDue, withReceiving, commandFrame}
 use Rattle.command_frames.specs.Commanding as cmd
 use Rattle.command_frames.proofs.Laws.{ticked-idle, ticked-due}
 use Rattle.channel_core.proofs.Laws.{line-none}
 use Rattle.channel_ticks.specs.Quiet.{quietTicks, channelQuietTicks, afterQuiet}
-use Rattle.channel_ticks.specs.Ticks.{ticksOf, framesIn, framesAt, withFrame, sendsNext, commandFirst, commandLeaves, commandFramesFirst, withCommandFrame, receivingAfter}
+use Rattle.channel_ticks.specs.Ticks.{ticksOf, framesIn, framesAt, withFrame, sendsNext, commandFirst, commandLeaves, commandFramesFirst, withCommandFrame, receivingAfter, conditionAfter, afterTicks}
 use Rattle.channel_ticks.proofs.QuietTicks as sequencer
+use Rattle.channel_ticks.proofs.Once.{Once, alone, once-next, latched-next, missing-next, ticked-counting, quiet-counting, quiet-keeps, quiet-same}
 
 -- a channel after k quiet ticks: its sequencer's countdowns lowered
 abbrev pub waited : Channel → ℕ → Channel
@@ -122,61 +124,108 @@ module _ (s : List ℕ) (n user : ℕ) where
         go true h = omega arith
         go false h = omega arith
 
-  -- What ticks with no command frame due change of a channel: its status, its sequencer, and whether replies go to E4–FA.
-  abbrev pub moved : Channel → Status → Sequencer → Bool → Channel
-  moved c st q on = withCommands (withSequencer (withStatus c st) q) (withReceiving (c .commands) on)
+  -- the channel before any of them: itself, as its count is at most 255
+  abbrev first : Channel → Channel
+  first c = afterTicks c 0 (withMissing (c .sequencer) 0) 0
 
-  -- The same after k ticks, of what the loop over them holds: status, sequencer, frames so far, and the list.
-  abbrev pub Held : Channel → List ℕ → ℕ → Status → Sequencer → ℕ → List ℕ → Type 0
-  Held c l k st q f m = After c l k (moved c st q (receivingAfter (c .commands .receiving) f)) f m
+  first-same : (c : Channel) → c .sequencer .missing ≤ 255 → first c ≡ c
+  first-same c few =
+      ap (λ (x : ℕ). withSequencer c (withMissing (c .sequencer) x)) (let e : missingWith (c .sequencer .missing) 0 ≡ c .sequencer .missing = omega arith in e)
 
-  pub held-none : (c : Channel) (l : List ℕ) → Held c l 0 (c .status) (c .sequencer) 0 l
-  held-none c l = after-none c l
+  -- After k ticks with no command frame due, what the loop over them holds: the condition of their words, their sequencer, which counts what they found
+  -- missing, their frames, and the list.
+  pub record Held (c : Channel) (l : List ℕ) (k condition : ℕ) (q : Sequencer) (f : ℕ) (m : List ℕ) : Type 0 where
+    pub after : After (first c) l k (afterTicks c condition q f) f m
+    pub once : Once condition q
+
+  pub held-none : (c : Channel) (l : List ℕ) → Held c l 0 0 (withMissing (c .sequencer) 0) 0 l
+  held-none c l = record { after = after-none (first c) l; once = inl refl }
+
+  pub held-after : {c : Channel} {l : List ℕ} {k condition : ℕ} {q : Sequencer} {f : ℕ} {m : List ℕ} → Held c l k condition q f m
+      → c .sequencer .missing ≤ 255 → After c l k (afterTicks c condition q f) f m
+  held-after {c} {l} {k} {condition} {q} {f} {m} x few =
+      subst (λ (b : Channel). After b l k (afterTicks c condition q f) f m) (first-same c few) (x .after)
 
   pub after-few : {c d : Channel} {l : List ℕ} {k f : ℕ} {m : List ℕ} → After c l k d f m → f ≤ k
   after-few {c} {d} {l} {k} x = omega (arith, x .frames-are, frames-few c k)
 
-  pub held-few : {c : Channel} {l : List ℕ} {k : ℕ} {st : Status} {q : Sequencer} {f : ℕ} {m : List ℕ} → Held c l k st q f m → f ≤ k
-  held-few x = after-few x
+  pub held-few : {c : Channel} {l : List ℕ} {k condition : ℕ} {q : Sequencer} {f : ℕ} {m : List ℕ} → Held c l k condition q f m → f ≤ k
+  held-few x = after-few (x .after)
 
   -- j quiet ones more
-  pub held-quiet : (c : Channel) (l : List ℕ) (k j : ℕ) {st st' : Status} {q q' : Sequencer} {f f' : ℕ} {m : List ℕ}
-      → Held c l k st q f m → NoneDue c → j ≤ quietTicks q → st' ≡ st → q' ≡ afterQuiet q j → f' ≡ f → Held c l (k + j) st' q' f' m
-  held-quiet c l k j x none h a b g = rw (a, b, g) (after-quiet c l k x none j h)
+  pub held-quiet : (c : Channel) (l : List ℕ) (k j : ℕ) {condition condition' : ℕ} {q q' : Sequencer} {f f' : ℕ} {m : List ℕ}
+      → Held c l k condition q f m → NoneDue c → j ≤ quietTicks q → condition' ≡ condition → q' ≡ afterQuiet q j → f' ≡ f
+      → Held c l (k + j) condition' q' f' m
+  held-quiet c l k j {condition} {condition'} {q} {q'} {f} {f'} {m} x none h a b g =
+      let count = missingWith (c .sequencer .missing) (q .missing) in
+      let kept = quiet-keeps q count j in
+      let same : waited (afterTicks c condition q f) j ≡ afterTicks c condition (afterQuiet q j) f
+      = ap (withSequencer (afterTicks c condition q f)) (quiet-counting q count j)
+      ∙ ap
+      (λ (i : ℕ).
+      withCommands
+      (withSequencer (withStatus c (latchedBy (c .status) i condition)) (withMissing (afterQuiet q j) (missingWith (c .sequencer .missing) i)))
+      (withReceiving (c .commands) (receivingAfter (c .commands .receiving) f)))
+      (sym (kept .0)) in
+      rw (a, b, g)
+      (record {
+        after =
+            subst (λ (d : Channel). After (first c) l (k + j) d f m) same
+            (after-quiet (first c) l k (x .after) none j (subst (λ (i : ℕ). j ≤ i) (sym (quiet-same q count j)) h));
+        once = once-quiet condition q (afterQuiet q j) (x .once) (kept .1);
+      })
+    where
+      once-quiet : (condition : ℕ) (q r : Sequencer) → Once condition q → r .stage ≡ q .stage → Once condition r
+      once-quiet condition q r (inl e) same = inl e
+      once-quiet condition q r (inr settled) same = inr (ap holds same ∙ settled)
 
   number : (id : ℕ) (x : Transmission) → cond (isFrame (sendFrame id x)) 1 0 ≡ asNumber x
   number id transmission.Nothing = refl
   number id (transmission.Word word k) = refl
 
   -- one more, whatever it sends
-  pub held-tick : (c : Channel) (l : List ℕ) (k : ℕ) {st st' : Status} {q q' : Sequencer} {f f' : ℕ} {m m' : List ℕ} (due p id : ℕ)
-      → Held c l k st q f m
+  pub held-tick : (c : Channel) (l : List ℕ) (k : ℕ) {condition condition' : ℕ} {q q' : Sequencer} {f f' : ℕ} {m m' : List ℕ} (due p id : ℕ)
+      → Held c l k condition q f m
       → NoneDue c
       → due ≡ getD s (setpointPlace (user - 1) (bitOf (secondActive (c .registers) (user - 1))) n (q .index)) 0
       → p ≡ periodOf (c .registers .clock)
       → id ≡ c .registers .id
-      → st' ≡ sendStatus st (q .last) (ticked q due n p id .transmission)
+      → condition' ≡ conditionAfter (ticked q due n p id .transmission) condition
       → q' ≡ ticked q due n p id .sequencer
       → f' ≡ f + asNumber (ticked q due n p id .transmission)
       → m' ≡ withFrame (sendFrame id (ticked q due n p id .transmission)) k m
-      → Held c l (k + 1) st' q' f' m'
+      → Held c l (k + 1) condition' q' f' m'
   unfolding tickOf tickAnswer dueOf
-  held-tick c l k {st} {st'} {q} {q'} {f} {f'} {m} {m'} due p id x none d e i a b g h =
+  held-tick c l k {condition} {condition'} {q} {q'} {f} {f'} {m} {m'} due p id x none d e i a b g h =
+      let before = c .sequencer .missing in
       let on = receivingAfter (c .commands .receiving) f in
-      let v : ticked q due n p id ≡ playedOf (moved c st q on) s n user = simp (d, e, i) in
-      let sent = ticked q due n p id .transmission in
+      let next = ticked q due n p id in
+      let sent = next .transmission in
+      let now : playedOf (afterTicks c condition q f) s n user
+      ≡ record { sequencer = withMissing (next .sequencer) (missingAfter sent (q .last) (missingWith before (q .missing))); transmission = sent }
+      = sym (simp (d, e, i)) ∙ ticked-counting q (missingWith before (q .missing)) due n p id in
       let w = withReceiving (c .commands) on in
       let r = receiving-next (c .commands .receiving) f f' sent g in
-      let y = after-next c l k {e = moved c st' q' (receivingAfter (c .commands .receiving) f')} {a = sendFrame (c .registers .id) sent} x
+      let missing : q' .missing ≡ missingAfter sent (q .last) (q .missing) = ap (λ (z : Sequencer). z .missing) b ∙ counts q due n p id .1 in
+      let status : sendStatus (latchedBy (c .status) (q .missing) condition) (q .last) sent ≡ latchedBy (c .status) (q' .missing) condition'
+      = latched-next (c .status) (q .missing) condition (q .last) sent (alone q due n p id condition (x .once)) ∙ simp (missing, a) in
+      let count : missingAfter sent (q .last) (missingWith before (q .missing)) ≡ missingWith before (q' .missing)
+      = missing-next before (q .missing) (q .last) sent ∙ ap (missingWith before) (sym missing) in
+      let y = after-next (first c) l k {e = afterTicks c condition' q' f'} {a = sendFrame (c .registers .id) sent} (x .after)
       (ap
       (λ (z : t.Ticked).
-      withCommands (withSequencer (withStatus c (sendStatus st (q .last) (z .transmission))) (z .sequencer)) (cmd.ticked w (isSetpoint (z .transmission))))
-      (sym v)
-      ∙ simp (ticked-idle w (isSetpoint sent) none, a, b, r))
-      (ap (λ (z : t.Ticked). tickLine (c .registers .id) w (z .transmission)) (sym v) ∙ line-none (c .registers .id) w none sent) in
+      withCommands (withSequencer (withStatus c (sendStatus (latchedBy (c .status) (q .missing) condition) (q .last) (z .transmission))) (z .sequencer))
+      (cmd.ticked w (isSetpoint (z .transmission))))
+      now
+      ∙ simp (ticked-idle w (isSetpoint sent) none, status, count, sym b, r))
+      (ap (λ (z : t.Ticked). tickLine (c .registers .id) w (z .transmission)) now ∙ line-none (c .registers .id) w none sent) in
       let f-is : f' ≡ f + cond (isFrame (sendFrame (c .registers .id) sent)) 1 0 = g ∙ ap (λ (z : ℕ). f + z) (sym (number (c .registers .id) sent)) in
       let m-is : m' ≡ withFrame (sendFrame (c .registers .id) sent) k m = h ∙ ap (λ (z : ℕ). withFrame (sendFrame z sent) k m) i in
-      rw add-one (record { channel-is = y .channel-is; frames-are = y .frames-are ∙ sym f-is; captured-is = y .captured-is ∙ sym m-is })
+      rw add-one
+      (record {
+        after = record { channel-is = y .channel-is; frames-are = y .frames-are ∙ sym f-is; captured-is = y .captured-is ∙ sym m-is };
+        once = rw (a, b) (once-next q due n p id condition (x .once));
+      })
 
   -- ---- With a command frame due
 

@@ -5,13 +5,17 @@ use mathlib.Core.Bool.{Bool, false, cond, not, _&&_}
 use mathlib.Core.List.{List}
 use lib.ListN.{set}
 use lib.Dec.{eqb, ltb}
-use Rattle.command_frames.specs.Commanding.{isDue, commandFrame}
+use Rattle.sequencer.specs.declared.Sequencer.{Sequencer}
+use Rattle.sequencer.specs.declared.Transmission.{Transmission}
+use Rattle.sequencer.specs.declared.Transmission.the-variants as transmission
+use Rattle.sequencer.specs.Playing.{withMissing, missingWith}
+use Rattle.command_frames.specs.Commanding.{isDue, commandFrame, withReceiving}
 use Rattle.command_frames.specs.Commanding as cmd
 use Rattle.channel_core.specs.declared.Channel.{Channel}
 use Rattle.channel_core.specs.Answers.{Answer, isFrame}
 use Rattle.channel_core.specs.Answers as ans
-use Rattle.channel_core.specs.State.{withCommands}
-use Rattle.channel_core.specs.Behaviour.{tickOf, tickAnswer}
+use Rattle.channel_core.specs.State.{withStatus, withSequencer, withCommands}
+use Rattle.channel_core.specs.Behaviour.{latchedBy, tickOf, tickAnswer}
 use Rattle.channel_ticks.specs.Quiet.{quietTicks}
 
 -- the channel after k ticks
@@ -43,6 +47,27 @@ unfoldable pub framesAt : Channel → List ℕ → ℕ → ℕ → ℕ → List 
 framesAt c s n user zero l = l
 framesAt c s n user (suc k) l = withFrame (answerAfter c s n user k) k (framesAt c s n user k l)
 
+-- whether replies go to E4–FA after ticks with no command frame due: a setpoint ends it, and then there are frames
+abbrev pub receivingAfter : Bool → ℕ → Bool
+receivingAfter receiving frames = cond (ltb 0 frames) false receiving
+
+-- ---- What ticks in a row latch and count, once for all of them: no reply comes between them, and one of their words at most has a condition (`settles` of
+-- proofs/Once: it is repeated then)
+
+-- the condition of their words, one tick more transmitting this; 0: none
+abbrev pub conditionAfter : Transmission → ℕ → ℕ
+conditionAfter transmission.Nothing k = k
+conditionAfter (transmission.Word word j) k = cond (eqb j 0) k j
+
+-- a channel after ticks with no command frame due: the condition of their words, their sequencer, whose count has only what they found missing, and the
+-- number of their frames
+abbrev pub afterTicks : Channel → ℕ → Sequencer → ℕ → Channel
+afterTicks c condition q frames =
+    withCommands
+    (withSequencer (withStatus c (latchedBy (c .status) (q .missing) condition))
+    (withMissing q (missingWith (c .sequencer .missing) (q .missing))))
+    (withReceiving (c .commands) (receivingAfter (c .commands .receiving) frames))
+
 -- ---- A command frame, before the ticks in a row
 
 -- whether the next tick sends a setpoint: it does exactly where none of the next ticks only counts down (`sends-next` of proofs/QuietTicks)
@@ -63,7 +88,3 @@ commandFramesFirst c = cond (commandLeaves c) 1 0
 
 abbrev pub withCommandFrame : Channel → List ℕ → List ℕ
 withCommandFrame c l = cond (commandLeaves c) (set l 0 (commandFrame (c .commands))) l
-
--- whether replies go to E4–FA after ticks with no command frame due: a setpoint ends it, and then there are frames
-abbrev pub receivingAfter : Bool → ℕ → Bool
-receivingAfter receiving frames = cond (ltb 0 frames) false receiving

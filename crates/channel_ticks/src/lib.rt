@@ -2,26 +2,24 @@
 pub mod quiet;
 
 use channel_core::Channel;
-use channel_core::send_status;
+use channel_core::latched_by;
 use channel_core::setpoint_frame;
 use channel_core::setpoint_place;
 use channel_core::word_at;
 use quiet::least;
 use sequencer::Sequencer;
 use sequencer::Transmission;
-use status::Status;
 ghost use mathlib.Core.Path.{_≡_};
-ghost use Prim.Native.Nat.{_+_, _<_, _%_};
+ghost use Prim.Native.Nat.{_+_, _<_, _≤_, _%_};
 ghost use lib.ListN.{set};
 ghost use Rattle.frame.specs.Frames.{encoded};
-ghost use Rattle.sequencer.specs.Playing.{ticked};
+ghost use Rattle.sequencer.specs.Playing.{ticked, withMissing};
 ghost use Rattle.sequencer.specs.Runs.{asNumber};
 ghost use mathlib.Core.Bool.{false};
-ghost use Rattle.command_frames.specs.Commanding.{isDue, withReceiving};
-ghost use Rattle.channel_core.specs.State.{withStatus, withSequencer, withCommands};
-ghost use Rattle.channel_core.specs.Behaviour.{sendStatus, sendFrame};
+ghost use Rattle.command_frames.specs.Commanding.{isDue};
+ghost use Rattle.channel_core.specs.Behaviour.{sendFrame};
 ghost use Rattle.channel_ticks.specs.Quiet.{afterQuiet};
-ghost use Rattle.channel_ticks.specs.Ticks.{ticksOf, framesIn, withFrame, framesAt, commandFirst, commandFramesFirst, withCommandFrame, receivingAfter};
+ghost use Rattle.channel_ticks.specs.Ticks.{ticksOf, framesIn, withFrame, framesAt, conditionAfter, afterTicks, commandFirst, commandFramesFirst, withCommandFrame, receivingAfter};
 
 // A channel after ticks in a row, and how many of them answered a frame.
 pub struct Advanced {
@@ -35,10 +33,11 @@ struct Begun {
     pub frames: u32,
 }
 
-// What the rest of the ticks change of a channel, and their frames so far. Of its command frames they can only end the replies, which the frames tell: a
-// field more here would slow the loop down.
+// What the rest of the ticks come to so far: the condition of their words (0: none; a word with one is repeated, so there is one at most), the sequencer,
+// which counts only what they find missing, and the number of their frames. What they latch follows from that, and so does whether replies still go to
+// E4-FA: a field more here, or the status, would slow the loop down.
 struct Progress {
-    pub status: Status,
+    pub condition: u8,
     pub sequencer: Sequencer,
     pub frames: u32,
 }
@@ -89,6 +88,21 @@ fn capture(captured: &mut [u64], at: usize, id: u8, word: u32)
     }
 }
 
+// The condition of the words with one tick more.
+fn condition_after(sent: Transmission, before: u8) -> u8
+    ensures { λ r. ⌜ r ≡ conditionAfter sent before ⌝ }
+{
+    match sent {
+        Transmission::Nothing => before,
+        Transmission::Word { word: _, condition } => {
+            if condition == 0 {
+                return before;
+            }
+            condition
+        }
+    }
+}
+
 // One tick, its frame put at its place.
 fn tick(
     progress: Progress,
@@ -100,24 +114,23 @@ fn tick(
     id: u8,
 ) -> Progress
     requires { ⌜ progress .frames < 4294967295 ⌝ }
-    ensures { λ r. ⌜ (r .status ≡ sendStatus (progress .status) (progress .sequencer .last) (ticked (progress .sequencer) due n period id .transmission)) × (r .sequencer ≡ ticked (progress .sequencer) due n period id .sequencer) × (r .frames ≡ progress .frames + asNumber (ticked (progress .sequencer) due n period id .transmission)) × (now (captured .exit) ≡ withFrame (sendFrame id (ticked (progress .sequencer) due n period id .transmission)) at (now (captured .entry))) ⌝ }
+    ensures { λ r. ⌜ (r .condition ≡ conditionAfter (ticked (progress .sequencer) due n period id .transmission) (progress .condition)) × (r .sequencer ≡ ticked (progress .sequencer) due n period id .sequencer) × (r .frames ≡ progress .frames + asNumber (ticked (progress .sequencer) due n period id .transmission)) × (now (captured .exit) ≡ withFrame (sendFrame id (ticked (progress .sequencer) due n period id .transmission)) at (now (captured .entry))) ⌝ }
 {
     let sequencer = progress.sequencer;
-    let status = progress.status;
     let ticked = sequencer.tick(due, n, period, id);
     let next = ticked.sequencer;
     let sent = ticked.transmission;
-    let latched = send_status(status, sequencer.last, sent);
+    let condition = condition_after(sent, progress.condition);
     match sent {
         Transmission::Nothing => Progress {
-            status: latched,
+            condition: condition,
             sequencer: next,
             frames: progress.frames,
         },
         Transmission::Word { word, condition: _ } => {
             capture(captured, at, id, word);
             Progress {
-                status: latched,
+                condition: condition,
                 sequencer: next,
                 frames: progress.frames + 1,
             }
@@ -127,7 +140,7 @@ fn tick(
 
 // So many quiet ticks.
 fn skip(progress: Progress, count: u64) -> Progress
-    ensures { λ r. ⌜ (r .status ≡ progress .status) × (r .sequencer ≡ afterQuiet (progress .sequencer) count) × (r .frames ≡ progress .frames) ⌝ }
+    ensures { λ r. ⌜ (r .condition ≡ progress .condition) × (r .sequencer ≡ afterQuiet (progress .sequencer) count) × (r .frames ≡ progress .frames) ⌝ }
 {
     let sequencer = progress.sequencer;
     let mut next = progress;
@@ -137,13 +150,12 @@ fn skip(progress: Progress, count: u64) -> Progress
 
 // A channel before the first of them.
 fn begin(c: Channel) -> Progress
-    ensures { λ r. ⌜ (r .status ≡ c .status) × (r .sequencer ≡ c .sequencer) × (r .frames ≡ 0) ⌝ }
+    ensures { λ r. ⌜ (r .condition ≡ 0) × (r .sequencer ≡ withMissing (c .sequencer) 0) × (r .frames ≡ 0) ⌝ }
 {
-    let status = c.status;
     let sequencer = c.sequencer;
     Progress {
-        status: status,
-        sequencer: sequencer,
+        condition: 0,
+        sequencer: sequencer.missing_cleared(),
         frames: 0,
     }
 }
@@ -160,15 +172,16 @@ fn receiving_after(receiving: bool, frames: u32) -> bool
 
 // A channel after the last of them.
 fn finish(c: Channel, progress: Progress) -> Advanced
-    ensures { λ r. ⌜ (r .channel ≡ withCommands (withSequencer (withStatus c (progress .status)) (progress .sequencer)) (withReceiving (c .commands) (receivingAfter (c .commands .receiving) (progress .frames)))) × (r .frames ≡ progress .frames) ⌝ }
+    ensures { λ r. ⌜ (r .channel ≡ afterTicks c (progress .condition) (progress .sequencer) (progress .frames)) × (r .frames ≡ progress .frames) × (c .sequencer .missing ≤ 255) ⌝ }
 {
-    let status = progress.status;
+    let status = c.status;
+    let before = c.sequencer;
     let sequencer = progress.sequencer;
     let mut commands = c.commands;
     commands.receiving = receiving_after(commands.receiving, progress.frames);
     let mut next = c;
-    next.status = status;
-    next.sequencer = sequencer;
+    next.status = latched_by(status, sequencer.missing, progress.condition);
+    next.sequencer = sequencer.missing_after(before.missing);
     next.commands = commands;
     Advanced {
         channel: next,

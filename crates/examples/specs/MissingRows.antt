@@ -1,10 +1,11 @@
 -- Document 02, card 2, on a function of two words sent every 10 ticks, the first on tick 10: what 0C and the statuses read. The readback buffer takes one.
 use mathlib.Core.Path.{_≡_}
+use mathlib.Core.Bool.{true, false}
 use mathlib.Core.List.{List, [], _∷_, _++_}
 use lib.ListN.{replicate}
 use Prim.Native.Nat.{ℕ}
-use Rattle.channel_core.specs.Answers.{value, kept, lost}
-use Rattle.channel.specs.OneChannel.{ChannelCall, writeRegister, readRegister, arm, disarm, reply, tick, response}
+use Rattle.channel_core.specs.Answers.{refused, value, bit, kept, lost}
+use Rattle.channel.specs.OneChannel.{ChannelCall, writeRegister, readRegister, arm, disarm, reply, tick, changeUser, readMain, response}
 use Rattle.examples.specs.Reached.{led}
 
 -- this Frame ID, clock code 3, armed and started; then ticks
@@ -22,15 +23,30 @@ changed from to = started from ++ (ticks 10 ++ (writeRegister 8 0x14 to ∷ tick
 abbrev pub answered : List ChannelCall
 answered = started 0x15 ++ (ticks 10 ++ (reply 8 3 ∷ reply 8 3 ∷ []))
 
+-- both words sent, and no reply: six are missing
+abbrev pub unanswered : List ChannelCall
+unanswered = started 0x15 ++ ticks 20
+
+-- a function that ends, and the next one's first word
+abbrev pub nextFirst : List ChannelCall → List ChannelCall
+nextFirst between = between ++ (arm ∷ writeRegister 8 0x08 1 ∷ ticks 10)
+
 pub record MissingRows : Type 0 where
   -- no reply to the first word: six are missing once the second is sent, and D4 is latched beside RUN and EOF
   pub none-before : response (led (started 0x15 ++ ticks 19)) (readRegister 0x0c) ≡ value 0
-  pub six : response (led (started 0x15 ++ ticks 20)) (readRegister 0x0c) ≡ value 6
-  pub latched-02 : response (led (started 0x15 ++ ticks 20)) (readRegister 0x02) ≡ value 0xc010
-  pub latched-04 : response (led (started 0x15 ++ ticks 20)) (readRegister 0x04) ≡ value 0xc010
-  -- a read clears the count, and not D4
-  pub cleared : response (led (started 0x15 ++ (ticks 20 ++ (readRegister 0x0c ∷ [])))) (readRegister 0x0c) ≡ value 0
-  pub latched-still : response (led (started 0x15 ++ (ticks 20 ++ (readRegister 0x0c ∷ [])))) (readRegister 0x02) ≡ value 0xc010
+  pub six : response (led unanswered) (readRegister 0x0c) ≡ value 6
+  pub latched-02 : response (led unanswered) (readRegister 0x02) ≡ value 0xc010
+  pub latched-04 : response (led unanswered) (readRegister 0x04) ≡ value 0xc010
+  -- 0C is read-only; a read clears the count, and not D4; a read of a status leaves the count
+  pub read-only : response (led unanswered) (writeRegister 8 0x0c 0) ≡ refused 4
+  pub cleared : response (led (unanswered ++ (readRegister 0x0c ∷ []))) (readRegister 0x0c) ≡ value 0
+  pub latched-still : response (led (unanswered ++ (readRegister 0x0c ∷ []))) (readRegister 0x02) ≡ value 0xc010
+  pub counted-still : response (led (unanswered ++ (readRegister 0x02 ∷ readRegister 0x04 ∷ []))) (readRegister 0x0c) ≡ value 6
+  -- the Main bits: D4 enabled as it happens, not enabled, enabled later
+  pub enabled : response (led (writeRegister 8 0x00 0x10 ∷ unanswered)) (readMain 0x28) ≡ bit true
+  pub enabled-2a : response (led (writeRegister 8 0x00 0x10 ∷ unanswered)) (readMain 0x2a) ≡ bit true
+  pub not-enabled : response (led unanswered) (readMain 0x28) ≡ bit false
+  pub enabled-later : response (led (unanswered ++ (writeRegister 8 0x00 0x10 ∷ []))) (readMain 0x28) ≡ bit false
   -- two replies, one kept and one lost: four are missing
   pub first-kept : response (led (started 0x15 ++ ticks 10)) (reply 8 3) ≡ kept
   pub second-lost : response (led (started 0x15 ++ (ticks 10 ++ (reply 8 3 ∷ [])))) (reply 8 3) ≡ lost
@@ -38,9 +54,18 @@ pub record MissingRows : Type 0 where
   -- the Frame ID that counts is that of the send looked at
   pub from-15 : response (led (changed 0x15 0)) (readRegister 0x0c) ≡ value 6
   pub to-15 : response (led (changed 0 0x15)) (readRegister 0x0c) ≡ value 0
-  -- a restart does not break the chain, and idling does
+  -- a restart does not break the chain; idling does: disarm, a user change, Group End, reset
   pub restarted : response (led (answered ++ (writeRegister 8 0x08 1 ∷ ticks 10))) (readRegister 0x0c) ≡ value 4
-  pub idled : response (led (answered ++ (disarm ∷ arm ∷ writeRegister 8 0x08 1 ∷ ticks 10))) (readRegister 0x0c) ≡ value 0
+  pub disarmed : response (led (nextFirst (answered ++ (disarm ∷ [])))) (readRegister 0x0c) ≡ value 0
+  pub user-changed : response (led (nextFirst (answered ++ (changeUser 2 ∷ [])))) (readRegister 0x0c) ≡ value 0
+  pub group-ended : response (led (nextFirst (answered ++ (writeRegister 8 0x08 4 ∷ [])))) (readRegister 0x0c) ≡ value 0
+  -- Group End keeps the count, and reset clears it
+  pub kept-over-group-end : response (led (unanswered ++ (writeRegister 8 0x08 4 ∷ []))) (readRegister 0x0c) ≡ value 6
+  pub cleared-by-reset : response (led (unanswered ++ (writeRegister 8 0x06 1 ∷ []))) (readRegister 0x0c) ≡ value 0
+  -- a command frame of ID 15h before the first word is not looked at, and does not look
+  pub command-between : response (led (nextFirst (writeRegister 8 0x14 0x15 ∷ writeRegister 8 0xe0 0x15 ∷ arm ∷ writeRegister 8 0xfc 1 ∷ tick 128 ∷ [])))
+      (readRegister 0x0c)
+      ≡ value 0
   -- 42 sends found 252 missing, and the next takes the count to 255; a send at 255 latches D4 again
   pub near-most : response (led (started 0x15 ++ ticks 430)) (readRegister 0x0c) ≡ value 252
   pub most : response (led (started 0x15 ++ ticks 440)) (readRegister 0x0c) ≡ value 255

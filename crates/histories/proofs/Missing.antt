@@ -9,25 +9,25 @@ use lib.Dec.{eqb}
 use borrow.Author.Tests.{eqb-true, eq-eqb}
 use Rattle.status.specs.Bits.{bitAt, wordOfBits}
 use Rattle.status.specs.declared.Status.{Status}
-use Rattle.status.specs.Latching.{latched, missingReadback}
+use Rattle.status.specs.Latching.{latchedIn, latched, missingReadback}
 use Rattle.status.proofs.Laws.{word-bit}
-use Rattle.register_map.specs.AccessRule.{channelAccess}
+use Rattle.register_map.specs.AccessRule.{channelAccess, mainAccess}
 use Rattle.sequencer.specs.declared.LastSend.{LastSend}
 use Rattle.sequencer.specs.declared.Transmission.{Transmission}
 use Rattle.sequencer.specs.declared.Transmission.the-variants as transmission
-use Rattle.sequencer.specs.Playing.{shortfall, missed}
+use Rattle.sequencer.specs.Playing.{shortfall}
 use Rattle.command_frames.specs.declared.CommandFrames.{CommandFrames}
 use Rattle.command_frames.specs.Commanding.{isDue}
-use Rattle.channel_core.specs.Answers.{Answer, value, isFrame}
-use Rattle.channel_core.specs.Behaviour.{conditionStatus, sendStatus, isSetpoint, tickLine, playedOf, tickOf, tickAnswer}
+use Rattle.channel_core.specs.Answers.{Answer, value, bit, isFrame}
+use Rattle.channel_core.specs.Answers as ans
+use Rattle.channel_core.specs.Behaviour.{conditionStatus, sendStatus, conditionIn, isSetpoint, tickLine, playedOf, tickOf, tickAnswer}
 use Rattle.channel_core.specs.State as state
 use Rattle.channel_registers.specs.Calls.{readValue}
 use Rattle.channel.specs.OneChannel.{ChannelCall, OneChannel, oneChannel, refusalOf, effect, answer, transition, response, transitions, readRegister, tick}
 use Rattle.histories.specs.History.{entry, resets, readsAt, Told, told, toldOf, sendsSetpoint}
 use Rattle.histories.specs.Windows.{Window, closed, windowAfter, windowSince}
-use Rattle.histories.specs.Commands.{commandsOver}
 use Rattle.histories.specs.Ranges.{ChannelInRange}
-use Rattle.histories.specs.Missing.{shortfallOf, findsShortfall, shortfallBy, clears, shortfallsSince, shortfallsOver, isEmpty, missingCount, CountsMissing, ReadsBit, LatchesShortfalls, conditionIn, latchedBy, TickLatches}
+use Rattle.histories.specs.Missing.{shortfallOf, shortfallBy, clears, shortfallsSince, shortfallsOver, isEmpty, missingCount, CountsMissing, ReadsBit, LatchesShortfalls, tickTold, tickFinds, tickCondition, TickLatches, MainBits, RaisesMain}
 use Rattle.histories.proofs.Ticks.{sendWindow, windowOf}
 use Rattle.histories.proofs.Calls.{steps}
 use Rattle.histories.proofs.Apart.{apart-nothing}
@@ -162,7 +162,7 @@ module _ (polling : Bool) where
       record {
         word = wordOfBits (copyOf polling (o .channel .status) .bits);
         answers = reads-copy o;
-        is =
+        bit-is =
             word-bit (copyOf polling (o .channel .status) .bits) missingReadback
             ∙ over-all (offsetOf polling) Flagged flagged-step n m setpoints readbacks ks (unset polling);
       }
@@ -202,7 +202,7 @@ module _ (n m : ℕ) (setpoints readbacks : List ℕ) (ks : List ChannelCall) wh
   accepted = tick-accepted o n (depths-kept (oneChannel n m setpoints readbacks) ks .0)
 
   -- it answers a setpoint's frame exactly where the sequencer sends
-  sends : (isFrame (response o (tick (n * 64))) && not (isDue (commandsOver n m setpoints readbacks ks .waiting))) ≡ isSetpoint sent
+  sends : sendsSetpoint (tickTold n m setpoints readbacks ks) ≡ isSetpoint sent
   unfolding answer tickAnswer
   sends =
       ap (λ (f : CommandFrames). isFrame (response o (tick (n * 64))) && not (isDue (f .waiting))) (sym (commands-told n m setpoints readbacks ks))
@@ -211,18 +211,74 @@ module _ (n m : ℕ) (setpoints readbacks : List ℕ) (ks : List ChannelCall) wh
       (apart-nothing (o .channel) (o .setpoints) (o .n) (o .user) (ordered-from (oneChannel n m setpoints readbacks) ks ordered-opened .apart))
 
   latches : transition o (tick (n * 64)) .channel .status
-      ≡ latchedBy o (windowSince closed (toldOf (oneChannel n m setpoints readbacks) ks))
-      (record { entry = entry o (tick (n * 64)); commands = commandsOver n m setpoints readbacks ks })
+      ≡ conditionStatus (cond (tickFinds n m setpoints readbacks ks) (latched (o .channel .status) missingReadback) (o .channel .status)) (tickCondition o)
   unfolding effect tickOf
   latches =
       ap (λ (x : OneChannel). x .channel .status) (accepted-transition o (tick (n * 64)) accepted)
       ∙ send-latches (o .channel .status) (o .channel .sequencer .last) sent
       ∙ ap (λ (b : Bool). by b (windowOf (o .channel .sequencer))) (sym sends)
-      ∙ ap (by (isFrame (response o (tick (n * 64))) && not (isDue (commandsOver n m setpoints readbacks ks .waiting))))
-      (window-is n m setpoints readbacks ks)
+      ∙ ap (by (sendsSetpoint (tickTold n m setpoints readbacks ks))) (window-is n m setpoints readbacks ks)
     where
       by : Bool → Window → Status
       by b w = conditionStatus (cond (b && not (eqb (shortfallOf w) 0)) (latched (o .channel .status) missingReadback) (o .channel .status)) (conditionIn sent)
 
 pub tick-latches : TickLatches
 tick-latches n m setpoints readbacks ks = latches n m setpoints readbacks ks
+
+-- ---- Main
+
+main-bits : (o : OneChannel) → MainBits o (bit (o .channel .status .interrupt .main)) (bit (o .channel .status .polling .main))
+unfolding mainAccess response refusalOf answer
+main-bits o = record { main-28 = refl; main-2a = refl }
+
+reads-enable : (o : OneChannel) (b : Bool) → ReadsBit missingReadback o 0x00 b → bitAt (o .channel .status .enable) missingReadback ≡ b
+unfolding channelAccess response refusalOf answer readValue
+reads-enable o b r = ap (λ (x : ℕ). bitAt x missingReadback) (value-is (r .answers)) ∙ r .bit-is
+  where
+    held : Answer → ℕ
+    held (ans.refused k) = 0
+    held (ans.value v) = v
+    held (ans.frame f) = 0
+    held ans.kept = 0
+    held ans.lost = 0
+    held (ans.part s) = 0
+    held (ans.other x) = 0
+
+    value-is : {v w : ℕ} → value v ≡ value w → v ≡ w
+    value-is e = ap held e
+
+-- a condition leaves a Main bit that is set
+condition-raised : (s : Status) (k : ℕ) → s .interrupt .main ≡ true → s .polling .main ≡ true
+    → (conditionStatus s k .interrupt .main ≡ true) × (conditionStatus s k .polling .main ≡ true)
+unfolding latched
+condition-raised s k i p = go (eqb k 0) (bitAt (s .enable) k)
+  where
+    go : (a b : Bool)
+        → (cond a s (record { enable = s .enable; interrupt = latchedIn (s .interrupt) k b; polling = latchedIn (s .polling) k b }) .interrupt .main ≡ true)
+        × (cond a s (record { enable = s .enable; interrupt = latchedIn (s .interrupt) k b; polling = latchedIn (s .polling) k b }) .polling .main ≡ true)
+    go true b = (i, p)
+    go false true = (refl, refl)
+    go false false = (i, p)
+
+main-is : (o : OneChannel) (a b : Bool) → o .channel .status .interrupt .main ≡ a → o .channel .status .polling .main ≡ b → MainBits o (bit a) (bit b)
+main-is o a b i p = record { main-28 = main-bits o .main-28 ∙ ap bit i; main-2a = main-bits o .main-2a ∙ ap bit p }
+
+pub raises-main : RaisesMain
+unfolding latched
+raises-main n m setpoints readbacks ks finds =
+    let u = o n m setpoints readbacks ks in
+    let s = u .channel .status in
+    let e : transition u (tick (n * 64)) .channel .status ≡ conditionStatus (latched s missingReadback) (tickCondition u)
+    = latches n m setpoints readbacks ks ∙ ap (λ (b : Bool). conditionStatus (cond b (latched s missingReadback) s) (tickCondition u)) finds in (
+      λ on.
+          let enabled = reads-enable u true on in
+          let r = condition-raised (latched s missingReadback) (tickCondition u) (rw enabled refl) (rw enabled refl) in
+          main-is (transition u (tick (n * 64))) true true (ap (λ (x : Status). x .interrupt .main) e ∙ r .0) (ap (λ (x : Status). x .polling .main) e ∙ r .1),
+      λ off none.
+          let disabled = reads-enable u false off in
+          let f = e ∙ ap (conditionStatus (latched s missingReadback)) none in
+          record {
+            main-28 = main-bits _ .main-28 ∙ ap bit (ap (λ (x : Status). x .interrupt .main) f ∙ rw disabled refl) ∙ sym (main-bits u .main-28);
+            main-2a = main-bits _ .main-2a ∙ ap bit (ap (λ (x : Status). x .polling .main) f ∙ rw disabled refl) ∙ sym (main-bits u .main-2a);
+          },
+    )

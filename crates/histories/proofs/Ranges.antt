@@ -11,9 +11,8 @@ use Rattle.register_map.specs.AccessRule.{channelAccess}
 use Rattle.register_map.specs.AccessRefusals.{writeRefusal}
 use Rattle.status.specs.Bits.{bitAt}
 use Rattle.status.proofs.Laws.{enable-drops}
-use Rattle.sequencer.specs.declared.LastSend.{LastSend}
 use Rattle.sequencer.specs.declared.Sequencer.{Sequencer}
-use Rattle.sequencer.specs.Playing.{missed}
+use Rattle.sequencer.specs.Playing.{shortfall, missingWith}
 use Rattle.command_frames.specs.declared.CommandFrames.{CommandFrames}
 use Rattle.command_frames.specs.Commanding.{isDue}
 use Rattle.channel_core.specs.declared.Channel.{Channel}
@@ -207,10 +206,10 @@ channel-from o [] r = r
 channel-from o (k ∷ ks) r = channel-from (transition o k) ks (channel-step o k r)
 
 -- the count of missing readbacks, cleared or not, after a send or none
-missing-few : (clears sends : Bool) (k : ℕ) (l : LastSend) → k ≤ 255 → cond clears 0 (cond sends (missed k l) k) ≤ 255
-missing-few true sends k l h = omega arith
-missing-few false true k l h = omega arith
-missing-few false false k l h = h
+missing-few : (clears sends : Bool) (k more : ℕ) → k ≤ 255 → cond clears 0 (cond sends (missingWith k more) k) ≤ 255
+missing-few true sends k more h = omega arith
+missing-few false true k more h = omega arith
+missing-few false false k more h = h
 
 -- one call keeps all in range
 pub range-step : CallKeepsRange
@@ -227,7 +226,7 @@ range-step o k h =
       missing =
           subst (λ (j : ℕ). j ≤ 255) (sym (t .missing-step))
           (missing-few (resets (entry o k) || readsAt 0x0c (entry o k)) (isFrame (response o k) && not (isDue (o .channel .commands .waiting)))
-          (o .channel .sequencer .missing) (o .channel .sequencer .last) (h .sequencer .missing));
+          (o .channel .sequencer .missing) (shortfall (o .channel .sequencer .last)) (h .sequencer .missing));
       quiet = t .quiet-step (h .sequencer .quiet);
     }
     in

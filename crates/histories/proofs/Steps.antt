@@ -13,7 +13,7 @@ use Rattle.sequencer.specs.declared.Stage.the-variants as stage
 use Rattle.sequencer.specs.declared.Sequencer.{Sequencer}
 use Rattle.sequencer.specs.declared.Transmission.{Transmission}
 use Rattle.sequencer.specs.declared.Transmission.the-variants as transmission
-use Rattle.sequencer.specs.Playing.{isIdle, nothingSent, counted, missed, withMissing, answered, ticked}
+use Rattle.sequencer.specs.Playing.{isIdle, nothingSent, counted, shortfall, missingWith, withMissing, answered, ticked}
 use Rattle.sequencer.specs.Playing as seq
 use Rattle.sequencer.specs.Runs.{countAfter, missingAfter}
 use Rattle.sequencer.proofs.Moves.{counts}
@@ -46,7 +46,7 @@ observed a due takes w =
 -- End or not, a reset or not, idles otherwise or not, and reads the count of missing readbacks or not
 pub record Steps (n id : ℕ) (s : Sequencer) (a : Answer) (due takes ends again stops reads : Bool) (t : Sequencer) : Type 0 where
   pub count-step : t .count ≡ cond (ends || again) 0 (cond (isFrame a && not due) (counted (s .count)) (s .count))
-  pub missing-step : t .missing ≡ cond (again || reads) 0 (cond (isFrame a && not due) (missed (s .missing) (s .last)) (s .missing))
+  pub missing-step : t .missing ≡ cond (again || reads) 0 (cond (isFrame a && not due) (missingWith (s .missing) (shortfall (s .last))) (s .missing))
   pub quiet-step : Quiet s → Quiet t
   pub window-step : id < 256 → windowOf t ≡ cond (ends || (again || stops)) closed (observed a due takes (windowOf s))
   pub replies-step : s .last .replies ≤ 6 → t .last .replies ≤ 6
@@ -69,7 +69,7 @@ module _ {id : ℕ} {due takes : Bool} where
       record {
         count-step = k .count-kept;
         missing-step =
-            k .missing-kept ∙ sym (ap (λ (b : Bool). cond (b && not due) (missed (c .sequencer .missing) (c .sequencer .last)) (c .sequencer .missing)) (h .0));
+            k .missing-kept ∙ sym (ap (λ (b : Bool). cond (b && not due) (missingWith (c .sequencer .missing) (shortfall (c .sequencer .last))) (c .sequencer .missing)) (h .0));
         quiet-step = λ q e. k .last-kept;
         window-step = λ fits. ap sendWindow (k .last-kept);
         replies-step = λ e. omega (arith, ap (λ (l : LastSend). l .replies) (k .last-kept));
@@ -80,7 +80,7 @@ module _ {id : ℕ} {due takes : Bool} where
       record {
         count-step = k .count-kept ∙ sym (ap (λ (b : Bool). cond (b && not due) (counted (c .sequencer .count)) (c .sequencer .count)) (h .0));
         missing-step =
-            k .missing-kept ∙ sym (ap (λ (b : Bool). cond (b && not due) (missed (c .sequencer .missing) (c .sequencer .last)) (c .sequencer .missing)) (h .0));
+            k .missing-kept ∙ sym (ap (λ (b : Bool). cond (b && not due) (missingWith (c .sequencer .missing) (shortfall (c .sequencer .last))) (c .sequencer .missing)) (h .0));
         quiet-step = λ q e. k .last-kept ∙ q (k .idle-kept e);
         window-step = λ fits. ap sendWindow (k .last-kept) ∙ sym (observed-plain a due takes (windowOf (c .sequencer)) h);
         replies-step = λ e. omega (arith, ap (λ (l : LastSend). l .replies) (k .last-kept));
@@ -162,7 +162,7 @@ count-sent : (x : Transmission) (c : ℕ) → countAfter x c ≡ cond (isSetpoin
 count-sent transmission.Nothing c = refl
 count-sent (transmission.Word word k) c = refl
 
-missing-sent : (x : Transmission) (l : LastSend) (k : ℕ) → missingAfter x l k ≡ cond (isSetpoint x) (missed k l) k
+missing-sent : (x : Transmission) (l : LastSend) (k : ℕ) → missingAfter x l k ≡ cond (isSetpoint x) (missingWith k (shortfall l)) k
 missing-sent transmission.Nothing l k = refl
 missing-sent (transmission.Word word c) l k = refl
 
@@ -188,7 +188,7 @@ tick-steps n s f takes id due p some apart =
     record {
       count-step = c .0 ∙ count-sent x (s .count) ∙ sym (ap (λ (b : Bool). cond b (counted (s .count)) (s .count)) sent);
       missing-step =
-          c .1 ∙ missing-sent x (s .last) (s .missing) ∙ sym (ap (λ (b : Bool). cond b (missed (s .missing) (s .last)) (s .missing)) sent);
+          c .1 ∙ missing-sent x (s .last) (s .missing) ∙ sym (ap (λ (b : Bool). cond b (missingWith (s .missing) (shortfall (s .last))) (s .missing)) sent);
       quiet-step = a .stays-quiet;
       window-step = λ fits. a .window ∙ window-frame id f x (windowOf s) fits ∙ sym (rw (sent, line-unreceived id f x));
       replies-step = λ e. omega (arith, ap (λ (w : Window). w .replies) (a .window), window-few id x (windowOf s) e);
@@ -214,7 +214,7 @@ answered-steps n s a due takes plain received ours e =
     let d = due-facts (isIdle (s .stage)) (s .last) e in
     record {
       count-step = sym (ap (λ (b : Bool). cond (b && not due) (counted (s .count)) (s .count)) plain);
-      missing-step = sym (ap (λ (b : Bool). cond (b && not due) (missed (s .missing) (s .last)) (s .missing)) plain);
+      missing-step = sym (ap (λ (b : Bool). cond (b && not due) (missingWith (s .missing) (shortfall (s .last))) (s .missing)) plain);
       quiet-step = λ q f. clash (sym (d .0) ∙ f);
       window-step = λ fits. rw (plain, received, ours, d .1);
       replies-step = λ f. rw (d .1) (omega (arith, ltb-true (s .last .replies) 6 (d .1)));

@@ -74,7 +74,8 @@ stored r offset value =
     (set (r .delays) ((offset - 0x40) / 4) (delayWritten offset (getD (r .delays) ((offset - 0x40) / 4) 0) value)))
     r))))))
 
--- what a read at an offset shows: those that are kept, "0E Active Buffers", "10 and 12 Setpoint Count high byte and low word"
+-- what a read at an offset shows: those that are kept, "0E Active Buffers", "10 and 12 Setpoint Count high byte and low word". What 00, 02, 04, 0C and
+-- E0–FE show is kept elsewhere (`readValue`, channel_registers)
 unfoldable pub loaded : Registers → ℕ → ℕ
 loaded r offset =
     cond (eqb offset 0x0a) (r .clock)

@@ -1,17 +1,18 @@
 -- Laws of one call, for any state: which resume is taken, which word is last, and what the two counts take. Assumes nothing.
 use Prim.Native.Nat.{ℕ, _+_, _-_, _≤_, min}
 use mathlib.Core.Path.{_≡_, refl, ap, _∙_}
-use mathlib.Core.Bool.{Bool, true, false, cond}
+use mathlib.Core.Bool.{Bool, true, false, cond, _&&_}
 use native.Mathlib.Omega.{arith}
 use lib.Dec.{leb, ltb, eqb}
 use borrow.Author.Tests.{eq-eqb, ne-eqb, ltb-true, ltb-false}
 use Rattle.status.specs.Bits.{bitAt}
 use Rattle.sequencer.specs.Words.{kindOf}
-use Rattle.sequencer.specs.Playing.{idled, armed, disarmed, started, loadedResume, resumedAt, resumed, answered, groupEnded, sentNext, sentAs, repeated, quiet, withLeft, withResume, advancing, repeating, resuming, tickedAt, ticked}
+use Rattle.sequencer.specs.Playing.{idled, armed, disarmed, started, loadedResume, resumedAt, resumed, answered, groupEnded, shortfall, sentNext, sentAs, repeated, quiet, withLeft, withResume, advancing, repeating, resuming, tickedAt, ticked}
 use Rattle.sequencer.specs.Runs.{countAfter, missingAfter, asNumber}
 use Rattle.sequencer.specs.declared.Kind.the-variants as kind
 use Rattle.sequencer.specs.declared.Stage.{Stage}
 use Rattle.sequencer.specs.declared.Stage.the-variants as stage
+use Rattle.sequencer.specs.declared.LastSend.{LastSend}
 use Rattle.sequencer.specs.declared.Sequencer.{Sequencer}
 use Rattle.sequencer.specs.declared.Transmission.{Transmission}
 use Rattle.sequencer.specs.declared.Transmission.the-variants as transmission
@@ -143,3 +144,20 @@ pub counted-with : (x : Transmission) (a b c : ℕ) → c ≡ min (a + b) 0xffff
     → countAfter x c ≡ min (a + (b + asNumber x)) 0xffffff
 counted-with transmission.Nothing a b c h = omega arith
 counted-with (transmission.Word word condition) a b c h = omega (arith, counted-by c (ltb c 0xffffff) refl (omega arith))
+
+-- 8. A send of Frame ID 15h lacks what its replies are short of six; one of another ID lacks nothing, nor does none.
+pub short-of-six : (l : LastSend) → l .sent ≡ true → l .id ≡ 0x15 → l .replies ≤ 6 → shortfall l + l .replies ≡ 6
+unfolding shortfall
+short-of-six l sent id few = rw (sent, eq-eqb (l .id) 0x15 id) (omega arith)
+
+pub other-id : (l : LastSend) → (l .id ≡ 0x15 → ⊥) → shortfall l ≡ 0
+unfolding shortfall
+other-id l differs = rw (ne-eqb (l .id) 0x15 differs) (go (l .sent))
+  where
+    go : (sent : Bool) → cond (sent && false) (6 - l .replies) 0 ≡ 0
+    go true = refl
+    go false = refl
+
+pub none-before : (l : LastSend) → l .sent ≡ false → shortfall l ≡ 0
+unfolding shortfall
+none-before l none = rw none

@@ -55,7 +55,7 @@ isEnded (stage.Paused k) = false
 isEnded stage.Resuming = false
 isEnded stage.Ended = true
 
--- "the last send since idle (if any ..)": none
+-- "the last send since idle (if any ..)": none, and then no Frame ID is looked at
 abbrev pub nothingSent : LastSend
 nothingSent = record { sent = false; first = false; paused = false; last = false; id = 0; replies = 0 }
 
@@ -164,8 +164,8 @@ unfoldable pub shortfall : LastSend → ℕ
 shortfall l = cond (l .sent && eqb (l .id) 0x15) (6 - l .replies) 0
 
 -- the shortfall "is added to the count. The count stays at 255."
-abbrev pub missed : ℕ → LastSend → ℕ
-missed missing l = min (missing + shortfall l) 255
+abbrev pub missingWith : ℕ → ℕ → ℕ
+missingWith missing more = min (missing + more) 255
 
 -- the word due is sent, of this kind, with this Frame ID: "After a send the next follows one period later."
 unfoldable pub sentAs : Sequencer → ℕ → ℕ → ℕ → Kind → Ticked
@@ -180,7 +180,7 @@ sentAs s due period id k =
         word = due;
         last = record { sent = true; first = isStarting (s .stage); paused = pauses k; last = ends k; id = id; replies = 0 };
         count = counted (s .count);
-        missing = missed (s .missing) (s .last);
+        missing = missingWith (s .missing) (shortfall (s .last));
       };
       transmission = transmission.Word due (conditionOf k);
     }
@@ -202,7 +202,7 @@ repeated s period id =
         word = s .word;
         last = record { sent = true; first = false; paused = isPaused (s .stage); last = isEnded (s .stage); id = id; replies = 0 };
         count = counted (s .count);
-        missing = missed (s .missing) (s .last);
+        missing = missingWith (s .missing) (shortfall (s .last));
       };
       transmission = transmission.Word (s .word) 0;
     }

@@ -4,7 +4,7 @@ use Prim.Native.Nat.{ℕ, zero, suc, _+_, _*_, _<_}
 use mathlib.Core.Path.{_≡_}
 use mathlib.Core.Bool.{Bool, true, false}
 use Rattle.sequencer.specs.Words.{atEnd, kindOf, stageAfter, indexAfter, conditionOf}
-use Rattle.sequencer.specs.Playing.{ticked, counted, missed}
+use Rattle.sequencer.specs.Playing.{ticked, counted, shortfall, missingWith}
 use Rattle.sequencer.specs.declared.Kind.{Kind}
 use Rattle.sequencer.specs.declared.Stage.{Stage}
 use Rattle.sequencer.specs.declared.Stage.the-variants as stage
@@ -89,7 +89,7 @@ countAfter (transmission.Word word condition) count = counted count
 -- the count of missing readbacks after a tick that transmits this, `last` being the send before it
 abbrev pub missingAfter : Transmission → LastSend → ℕ → ℕ
 missingAfter transmission.Nothing last missing = missing
-missingAfter (transmission.Word word condition) last missing = missed missing last
+missingAfter (transmission.Word word condition) last missing = missingWith missing (shortfall last)
 
 -- how many words a tick that transmits this sends
 abbrev pub asNumber : Transmission → ℕ

@@ -5,9 +5,10 @@ mod ticks;
 mod words;
 
 ghost use mathlib.Core.Path.{_≡_};
-ghost use Rattle.sequencer.specs.Playing.{opened, unfinished, nothingSent, shortfall, idled, armed, disarmed, started, resumed, answered, groupEnded, withMissing};
+ghost use Prim.Native.Nat.{_≤_};
+ghost use Rattle.sequencer.specs.Playing.{opened, unfinished, nothingSent, shortfall, missingWith, idled, armed, disarmed, started, resumed, answered, groupEnded, withMissing};
 
-// The Frame ID of a send that asks for six readbacks.
+// The Frame ID whose missing replies are counted: a supply answers it with six readbacks.
 const READBACK_ID: u8 = 0x15;
 
 // What the channel is doing.
@@ -71,6 +72,16 @@ pub struct Ticked {
     pub transmission: Transmission,
 }
 
+// A count of missing readbacks with more of them.
+fn add_missing(count: u8, more: u8) -> u8
+    ensures { λ r. ⌜ r ≡ missingWith count more ⌝ }
+{
+    if count < 255 - more {
+        return count + more;
+    }
+    255
+}
+
 impl LastSend {
     pub fn nothing() -> LastSend
         ensures { λ r. ⌜ r ≡ nothingSent ⌝ }
@@ -85,7 +96,7 @@ impl LastSend {
         }
     }
 
-    // How many of the six replies are missing after a send that asked for readbacks; none after another send, or no send.
+    // How many of the six replies are missing after a send of that Frame ID; none after another send, or no send.
     pub fn shortfall(self) -> u8
         ensures { λ r. ⌜ r ≡ shortfall self ⌝ }
     {
@@ -233,6 +244,15 @@ impl Sequencer {
     {
         let mut next = self;
         next.missing = 0;
+        next
+    }
+
+    // The missing readbacks counted here added to a count from before, which fits its byte.
+    pub fn missing_after(self, before: u8) -> Sequencer
+        ensures { λ r. ⌜ (r ≡ withMissing self (missingWith before (self .missing))) × (before ≤ 255) ⌝ }
+    {
+        let mut next = self;
+        next.missing = add_missing(before, self.missing);
         next
     }
 

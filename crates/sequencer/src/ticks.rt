@@ -4,27 +4,17 @@ use crate::Sequencer;
 use crate::Stage;
 use crate::Ticked;
 use crate::Transmission;
+use crate::add_missing;
 use crate::stages;
 use crate::words;
 ghost use mathlib.Core.Path.{_≡_};
-ghost use Rattle.sequencer.specs.Playing.{counted, missed, sentNext, repeated, quiet, advancing, repeating, resuming, ticked};
+ghost use Rattle.sequencer.specs.Playing.{counted, sentNext, repeated, quiet, advancing, repeating, resuming, ticked};
 
 // The setpoint count with one more send.
 fn count_up(count: u32) -> u32
     ensures { λ r. ⌜ r ≡ counted count ⌝ }
 {
     if count < 0xff_ffff { count + 1 } else { count }
-}
-
-// The count of missing readbacks with those of the send before.
-fn count_missing(count: u8, last: LastSend) -> u8
-    ensures { λ r. ⌜ r ≡ missed count last ⌝ }
-{
-    let more = last.shortfall();
-    if count < 255 - more {
-        return count + more;
-    }
-    255
 }
 
 // A tick on which nothing leaves.
@@ -63,7 +53,7 @@ impl Sequencer {
                     replies: 0,
                 },
                 count: count_up(self.count),
-                missing: count_missing(self.missing, last),
+                missing: add_missing(self.missing, last.shortfall()),
             },
             transmission: Transmission::Word {
                 word: due,
@@ -95,7 +85,7 @@ impl Sequencer {
                     replies: 0,
                 },
                 count: count_up(self.count),
-                missing: count_missing(self.missing, last),
+                missing: add_missing(self.missing, last.shortfall()),
             },
             transmission: Transmission::Word {
                 word: self.word,

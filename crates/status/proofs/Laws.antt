@@ -1,15 +1,18 @@
--- What the definitions of status mean, bit by bit: a status word shows the latched bits at their places; Interrupt Enable drops D3 and keeps the rest. Assumes nothing.
+-- What the definitions of status mean, bit by bit: a status word shows the latched bits at their places; Interrupt Enable drops D3 and keeps the rest; conditions latch in
+-- any order, and once. Assumes nothing.
 use Prim.Native.Nat.{ℕ, zero, suc, _+_, _*_, _/_, _%_}
 use mathlib.Core.Path.{_≡_, refl, sym, ap, _∙_}
 use mathlib.Core.List.{List, [], _∷_}
-use mathlib.Core.Bool.{Bool, true, false}
+use mathlib.Core.Bool.{Bool, true, false, _||_}
 use native.Mathlib.Omega.{arith}
 use native.Mathlib.Nat.{pow-succ', zero-div, div-div-eq-div-mul}
-use lib.ListN.{getD}
+use lib.ListN.{getD, set}
 use lib.Pow.{shr-shr}
 use borrow.Author.Tests.{eq-eqb, ne-eqb}
 use Rattle.status.specs.Bits.{bitAt, bitOf, wordOfBits}
-use Rattle.status.specs.Latching.{keptEnable}
+use Rattle.status.specs.Latching.{latchedIn, latched, keptEnable}
+use Rattle.status.specs.declared.Latches.{Latches}
+use Rattle.status.specs.declared.Status.{Status}
 use Rattle.status.proofs.Words.{bit-small}
 
 -- the bits above the first are those of the rest
@@ -43,3 +46,42 @@ enable-keeps v (suc (suc (suc zero))) n = absurd (n refl)
 enable-keeps v (suc (suc (suc (suc k)))) n =
     let e : keptEnable v / 16 ≡ v / 16 = omega arith in
     above (keptEnable v) k ∙ ap (λ (x : ℕ). bitAt x k) e ∙ sym (above v k)
+
+-- Two conditions latch in any order.
+set-swap : (l : List Bool) (i j : ℕ) → set (set l i true) j true ≡ set (set l j true) i true
+set-swap [] i j = refl
+set-swap (b ∷ l) zero zero = refl
+set-swap (b ∷ l) zero (suc j) = refl
+set-swap (b ∷ l) (suc i) zero = refl
+set-swap (b ∷ l) (suc i) (suc j) = ap (λ (t : List Bool). b ∷ t) (set-swap l i j)
+
+or-swap : (a b c : Bool) → (b || (a || c)) ≡ (a || (b || c))
+or-swap true true c = refl
+or-swap true false c = refl
+or-swap false true c = refl
+or-swap false false c = refl
+
+in-swap : (l : Latches) (i j : ℕ) (a b : Bool) → latchedIn (latchedIn l i a) j b ≡ latchedIn (latchedIn l j b) i a
+in-swap l i j a b = rw (set-swap (l .bits) i j, or-swap a b (l .main))
+
+pub latched-swap : (s : Status) (i j : ℕ) → latched (latched s i) j ≡ latched (latched s j) i
+unfolding latched
+latched-swap s i j =
+    rw (in-swap (s .interrupt) i j (bitAt (s .enable) i) (bitAt (s .enable) j), in-swap (s .polling) i j (bitAt (s .enable) i) (bitAt (s .enable) j))
+
+-- One that latched already latches nothing more.
+set-twice : (l : List Bool) (i : ℕ) → set (set l i true) i true ≡ set l i true
+set-twice [] i = refl
+set-twice (b ∷ l) zero = refl
+set-twice (b ∷ l) (suc i) = ap (λ (t : List Bool). b ∷ t) (set-twice l i)
+
+or-twice : (a b : Bool) → (a || (a || b)) ≡ (a || b)
+or-twice true b = refl
+or-twice false b = refl
+
+in-twice : (l : Latches) (i : ℕ) (a : Bool) → latchedIn (latchedIn l i a) i a ≡ latchedIn l i a
+in-twice l i a = rw (set-twice (l .bits) i, or-twice a (l .main))
+
+pub latched-twice : (s : Status) (i : ℕ) → latched (latched s i) i ≡ latched s i
+unfolding latched
+latched-twice s i = rw (in-twice (s .interrupt) i (bitAt (s .enable) i), in-twice (s .polling) i (bitAt (s .enable) i))

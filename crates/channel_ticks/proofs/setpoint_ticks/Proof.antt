@@ -1,17 +1,17 @@
--- `channel_ticks::setpoint_ticks` meets its contract. The loop's invariant: what the ticks done change of the channel, and their frames. Assumes nothing.
+-- `channel_ticks::setpoint_ticks` meets its contract. The loop's invariant: what the ticks done come to, and their frames. Assumes nothing.
 use Prim.Native.Nat.{_+_, _-_, _≤_}
 use mathlib.Core.Path.{_≡_, refl, sym, _∙_}
 use native.Mathlib.Omega.{arith}
 use borrow.Author.Needs.{needs}
 use denote.Ref.{now}
 use lib.ListN.{length}
-use Rattle.channel_ticks.proofs.TicksInRow.{Held, held-none, held-tick, held-quiet, held-few}
+use Rattle.channel_ticks.proofs.TicksInRow.{Held, held-none, held-tick, held-quiet, held-few, held-after}
 use Rattle.channel_ticks.proofs.setpoint_ticks.Statement.{statement}
 use Rattle.channel_ticks.proofs.setpoint_ticks.Tie as tie
 
 abbrev Inv-loop : tie.InvT-loop
 Inv-loop c setpoints n user count captured₀ id at second period progress₀ done₀ captured progress done =
-    (done ≤ count) × (length captured ≡ length captured₀) × Held setpoints n user c captured₀ done (progress .status) (progress .sequencer) (progress .frames) captured
+    (done ≤ count) × (length captured ≡ length captured₀) × Held setpoints n user c captured₀ done (progress .condition) (progress .sequencer) (progress .frames) captured
 
 abbrev μ-loop : tie.MeasureT-loop
 μ-loop c setpoints n user count captured₀ id at second period progress₀ done₀ captured progress done = count - done
@@ -27,7 +27,7 @@ turn c = c .before .before .before .before .before
 skipped : (c : tie.After-skip Inv-loop μ-loop) →
     let a = begun (turn c) .args in
     let x = c .skip .result in
-    Held (now (a .setpoints)) (a .n) (a .user) (a .c) (now (a .captured)) (turn c .loop .done + c .before .least .result) (x .status) (x .sequencer) (x .frames)
+    Held (now (a .setpoints)) (a .n) (a .user) (a .c) (now (a .captured)) (turn c .loop .done + c .before .least .result) (x .condition) (x .sequencer) (x .frames)
     (turn c .loop .captured)
 skipped c =
     held-quiet _ _ _ _ _ _ _ (turn c .loop .inv .2) (begun (turn c) .pre)
@@ -132,7 +132,7 @@ returns : tie.Need-returns Inv-loop μ-loop
 returns c =
     let l = c .before .before in
     let e : l .loop .done ≡ begun l .args .count = omega (arith, c .before .loop-test .left, l .loop .inv .0) in
-    let x = rw e at (l .loop .inv .2) in
+    let x = held-after _ _ _ (rw e at (l .loop .inv .2)) (c .finish .ensures .2) in
     (c .finish .ensures .0 ∙ sym (x .channel-is), c .finish .ensures .1 ∙ sym (x .frames-are), sym (x .captured-is))
 
 pub setpoint-ticks-spec : {M : Type 1} → statement M

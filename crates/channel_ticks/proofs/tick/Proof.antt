@@ -1,4 +1,4 @@
--- `channel_ticks::tick` meets its contract: the sequencer's tick, what it latches, and its frame. Assumes nothing.
+-- `channel_ticks::tick` meets its contract: the sequencer's tick, the condition of its word, and its frame. Assumes nothing.
 use mathlib.Core.Path.{refl}
 use native.Mathlib.Omega.{arith}
 use borrow.Author.Needs.{needs}
@@ -8,8 +8,8 @@ use Rattle.channel_ticks.proofs.tick.Tie as tie
 tick-requires : tie.Need-tick-requires
 tick-requires c κs = search needs
 
-send-status-requires : tie.Need-send-status-requires
-send-status-requires c κs = search needs
+condition-after-requires : tie.Need-condition-after-requires
+condition-after-requires c κs = search needs
 
 enum-told : tie.Need-enum-told
 enum-told c = search needs
@@ -20,14 +20,14 @@ enum-known-sent c = search needs
 capture-requires : tie.Need-capture-requires
 capture-requires c κs = search needs
 
-add-t19 : tie.Need-add-t19
-add-t19 c = search needs
+add-t18 : tie.Need-add-t18
+add-t18 c = search needs
 
 returns : tie.Need-returns
 returns c =
     let s = c .before .before in
     let nothing = c .enum-told .given .1 in
-    rw (← s .before .before .tick .ensures) (s .send-status .ensures, refl, simp nothing (omega arith), simp nothing)
+    rw (← s .before .before .tick .ensures) (s .condition-after .ensures, refl, simp nothing (omega arith), simp nothing)
 
 same-length : tie.Need-same-length
 same-length c = search needs
@@ -38,18 +38,18 @@ returns-2 c =
     let k = w .before .before .before in
     let s = k .before .before in
     let word = k .sent .given .1 in
-    rw (← s .before .before .tick .ensures) (s .send-status .ensures, refl, simp word, simp (word, w .capture .ensures))
+    rw (← s .before .before .tick .ensures) (s .condition-after .ensures, refl, simp word, simp (word, w .capture .ensures))
 
 pub tick-spec : {M : Type 1} → statement M
 tick-spec =
     tie.close
     (tie.spec
     tick-requires
-    send-status-requires
+    condition-after-requires
     enum-told
     enum-known-sent
     capture-requires
-    add-t19
+    add-t18
     returns
     same-length
     returns-2)

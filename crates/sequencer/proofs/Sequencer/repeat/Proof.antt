@@ -13,18 +13,22 @@ is-ended-requires c κs = search needs
 count-up-requires : tie.Need-count-up-requires
 count-up-requires c κs = search needs
 
-count-missing-requires : tie.Need-count-missing-requires
-count-missing-requires c κs = search needs
+shortfall-requires : tie.Need-shortfall-requires
+shortfall-requires c κs = search needs
+
+add-missing-requires : tie.Need-add-missing-requires
+add-missing-requires c κs = search needs
 
 returns : tie.Need-returns
 unfolding repeated
 returns c =
     simp (
-      c .count-missing .ensures,
-      c .before .count-up .ensures,
-      c .before .before .is-ended .ensures,
-      c .before .before .before .is-paused .ensures,
+      c .add-missing .ensures,
+      c .before .shortfall .ensures,
+      c .before .before .count-up .ensures,
+      c .before .before .before .is-ended .ensures,
+      c .before .before .before .before .is-paused .ensures,
     )
 
 pub repeat-spec : {M : Type 1} → statement M
-repeat-spec = tie.close (tie.spec is-paused-requires is-ended-requires count-up-requires count-missing-requires returns)
+repeat-spec = tie.close (tie.spec is-paused-requires is-ended-requires count-up-requires shortfall-requires add-missing-requires returns)

@@ -40,27 +40,31 @@ ends-requires c κs = search needs
 count-up-requires : tie.Need-count-up-requires
 count-up-requires c κs = search needs
 
-count-missing-requires : tie.Need-count-missing-requires
-count-missing-requires c κs = search needs
+shortfall-requires : tie.Need-shortfall-requires
+shortfall-requires c κs = search needs
+
+add-missing-requires : tie.Need-add-missing-requires
+add-missing-requires c κs = search needs
 
 condition-of-requires : tie.Need-condition-of-requires
 condition-of-requires c κs =
-    let k = c .before .before .before .before .before .before .before in
+    let k = c .before .before .before .before .before .before .before .before in
     let a = k .before .before .before .args in
     rw (found k) (omega (arith, condition-at-most (a .due) (atEnd (a .n) (a .self .index))))
 
 returns : tie.Need-returns
 unfolding sentNext sentAs
 returns c =
-    let i = c .before .before .before .before .before .before in
+    let i = c .before .before .before .before .before .before .before in
     rw (← found (i .before .before)) (
     simp (
       c .condition-of .ensures,
-      c .before .count-missing .ensures,
-      c .before .before .count-up .ensures,
-      c .before .before .before .ends .ensures,
-      c .before .before .before .before .pauses .ensures,
-      c .before .before .before .before .before .is-starting .ensures,
+      c .before .add-missing .ensures,
+      c .before .before .shortfall .ensures,
+      c .before .before .before .count-up .ensures,
+      c .before .before .before .before .ends .ensures,
+      c .before .before .before .before .before .pauses .ensures,
+      c .before .before .before .before .before .before .is-starting .ensures,
       i .index-after .ensures,
       i .before .stage-after .ensures,
     )
@@ -78,6 +82,7 @@ send-next-spec =
     pauses-requires
     ends-requires
     count-up-requires
-    count-missing-requires
+    shortfall-requires
+    add-missing-requires
     condition-of-requires
     returns)
