@@ -70,7 +70,7 @@ fn early_ended(status: Status, sequencer: Sequencer) -> Status
     status
 }
 
-// The status with D4 latched, if so many missing replies are any.
+// The status with D4 latched where so many replies are missing, and as it was where none is.
 fn shortfall_status(status: Status, missing: u8) -> Status
     ensures { λ r. ⌜ r ≡ shortfallStatus status missing ⌝ }
 {
