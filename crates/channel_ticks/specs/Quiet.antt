@@ -1,5 +1,5 @@
--- Document 01, 'A channel's life': ticks that only count down. How many of the next ticks certainly are so, whatever words, depth and periods
--- they are handed, and the state after so many of them; `quiet-next` of proofs/QuietTicks.antt says that single ticks give just this.
+-- Document 01, 'A channel's life': ticks that only count down. How many of the next ticks certainly are so, whatever words, depth, periods
+-- and Frame IDs they are handed, and the state after so many of them; `quiet-next` of proofs/QuietTicks.antt says that single ticks give just this.
 use Prim.Native.Nat.{ℕ, _-_, min}
 use mathlib.Core.Bool.{cond}
 use lib.Dec.{leb}

@@ -34,8 +34,8 @@ struct Begun {
 }
 
 // What the rest of the ticks come to so far: the condition of their words (0: none; a word with one is repeated, so there is one at most), the sequencer,
-// which counts only what they find missing, and the number of their frames. What they latch follows from that, and so does whether replies still go to
-// E4-FA: a field more here, or the status, would slow the loop down.
+// whose count of missing readbacks is only what they find, and the number of their frames. What they latch follows from that, and so does whether replies
+// still go to E4-FA: a field more here, or the status, would slow the loop down.
 struct Progress {
     pub condition: u8,
     pub sequencer: Sequencer,

@@ -54,7 +54,7 @@ pub record MissingRows : Type 0 where
   -- the Frame ID that counts is that of the send looked at
   pub from-15 : response (led (changed 0x15 0)) (readRegister 0x0c) ≡ value 6
   pub to-15 : response (led (changed 0 0x15)) (readRegister 0x0c) ≡ value 0
-  -- a restart does not break the chain; idling does: disarm, a user change, Group End, reset
+  -- a restart does not break the chain; idling does: disarm, a user change, Group End
   pub restarted : response (led (answered ++ (writeRegister 8 0x08 1 ∷ ticks 10))) (readRegister 0x0c) ≡ value 4
   pub disarmed : response (led (nextFirst (answered ++ (disarm ∷ [])))) (readRegister 0x0c) ≡ value 0
   pub user-changed : response (led (nextFirst (answered ++ (changeUser 2 ∷ [])))) (readRegister 0x0c) ≡ value 0

@@ -155,12 +155,12 @@ stops e = cond (isRefused e) false (asks (e .before) (e .call) .idle)
 abbrev pub readsAt : ℕ → Entry → Bool
 readsAt offset e = cond (isRefused e) false (asks (e .before) (e .call) .reads offset)
 
--- the Frame ID that a frame carries; 0 where the number is none
+-- the Frame ID that a frame carries; 0 where the number is no frame
 abbrev pub idIn : Reading → ℕ
 idIn (frame.refused k) = 0
 idIn (frame.fields id word aux crc) = id
 
--- the Frame ID of the frame that a tick answered; 0 where there is none, of which it is not asked
+-- the Frame ID of the frame that a tick answered; 0 where there is none, which nothing asks for
 abbrev pub sentId : Answer → ℕ
 sentId (ans.refused k) = 0
 sentId (ans.value v) = 0

@@ -1,8 +1,9 @@
 -- Demand 3 in document 01's words of the end of a list, and lists that it speaks of. Assumes nothing.
 use Prim.Native.Nat.{ℕ, _+_, _*_, _<_}
-use mathlib.Core.Path.{_≡_, refl, sym, ap, subst}
+use mathlib.Core.Path.{_≡_, refl, sym, ap, subst, _∙_}
 use mathlib.Core.Logic.{inl, inr}
 use mathlib.Core.Bool.{true, false}
+use native.Mathlib.Omega.{arith}
 use lib.ListN.{length}
 use Rattle.address_map.proofs.Laws.{channel-named}
 use Rattle.channel_core.specs.Answers.{Answer, isRefusal}
@@ -10,15 +11,17 @@ use Rattle.channel.specs.OneChannel.{OneChannel, response, transitions}
 use Rattle.channel.specs.OneChannel as to
 use Rattle.channel.proofs.Cases.{either}
 use Rattle.histories.proofs.Depths.{depths-kept}
+use Rattle.histories.proofs.Missing.{counts-missing}
 use Rattle.board_state.specs.declared.Board.{Board}
 use Rattle.board_state.specs.Checks.{setpointsFit}
+use Rattle.board_state.specs.Parts.{own}
 use Rattle.board.specs.Calls.{tickBoardAnswer}
 use Rattle.board_channels.specs.Calls.{setpointAnswer}
 use Rattle.board_registers.specs.Calls.{readAnswer}
 use Rattle.board.specs.Worlds.{World}
 use Rattle.isolation.specs.Calls.{readRegister, writeSetpoint, tick, Lent, none, words, first, answer, refused, given, worldAfter, opening}
 use Rattle.isolation.specs.Feeding.{fed, view}
-use Rattle.isolation.specs.Isolation.{oneChannelAt, MatchesOneChannel, Shows, IsolationShown, astray, NotVacuous}
+use Rattle.isolation.specs.Isolation.{oneChannelAt, MatchesOneChannel, Shows, IsolationShown, MissingCounted, astray, NotVacuous}
 use Rattle.isolation.proofs.Parts.{Number}
 use Rattle.isolation.proofs.Worlds.{Good, step-refused, full-sets}
 use Rattle.isolation.proofs.Mains.{status-bit}
@@ -57,6 +60,12 @@ isolation-shown n m s r e c low high xs a =
     subst (λ (k : ℕ). Shows k m c (worldAfter (opening n m s r) xs) o) (d .0)
     (subst (λ (k : ℕ). Shows (o .n) k c (worldAfter (opening n m s r) xs) o) (d .1)
     (shown c (record { low = low; high = high }) (worldAfter (opening n m s r) xs) o (x .ends)))
+
+-- so the count of missing readbacks, on the board
+pub missing-counted : MissingCounted
+missing-counted n m s r e c low high xs a =
+    isolation-shown n m s r e c low high xs a .registers 0x0c (omega arith)
+    ∙ counts-missing n m (own s (n * 16) c) (own r (m * 2) c) (fed c xs) .shown
 
 -- ---- There are such lists
 

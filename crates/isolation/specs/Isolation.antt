@@ -1,6 +1,6 @@
 -- Document 01, 'What holds it to this': demand 3, "each channel behaves as it would alone". The claim, and what stands beside it.
--- Proofs: Isolation and FedTheSame in proofs/Isolation.antt, IsolationShown and NotVacuous in Shown, DefaultsUnused and OneFrameATick in
--- Defaults, the others in Refused and Others.
+-- Proofs: Isolation and FedTheSame in proofs/Isolation.antt, IsolationShown, MissingCounted and NotVacuous in Shown, DefaultsUnused and
+-- OneFrameATick in Defaults, the others in Refused and Others.
 use Prim.Native.Nat.{ℕ, _+_, _*_, _<_, _≤_}
 use mathlib.Core.Path.{_≡_}
 use mathlib.Core.Bool.{true, false}
@@ -15,6 +15,7 @@ use Rattle.channel.specs.Calls.{mainBit}
 use Rattle.channel.specs.OneChannel.{OneChannel, oneChannel, response, transitions, responses, bufferOne, bufferTwo}
 use Rattle.channel.specs.OneChannel as to
 use Rattle.histories.specs.Ranges.{InRange}
+use Rattle.histories.specs.Missing.{shortfallsOver, missingCount}
 use Rattle.board_state.specs.declared.Board.{Board}
 use Rattle.board_state.specs.State.{channelAt}
 use Rattle.board_state.specs.Main.{mainStatus}
@@ -126,6 +127,17 @@ OneFrameATick =
     → let o = view c (worldAfter (opening n m s r) xs) in
     isDue (o .channel .commands .waiting) ≡ true
     → playedOf (o .channel) (o .setpoints) (o .n) (o .user) .transmission ≡ transmission.Nothing
+
+-- document 02, card 2: "After every call the count is the sum of the shortfalls since opening, reset or its last read, at most 255.": so on the board.
+-- From an opening, over any allowed list, a read of channel c's 0C answers what the answers to the calls fed to c tell.
+abbrev pub MissingCounted : Type 0
+MissingCounted =
+    (n m : ℕ) (s r : List ℕ)
+    → openAnswer n m (length s) (length r) ≡ ans.done
+    → (c : ℕ) → 1 ≤ c → c ≤ 4
+    → (xs : List Item) → Allowed (opening n m s r) xs
+    → readAnswer (worldAfter (opening n m s r) xs .board) (0x800 * c + 0x0c)
+    ≡ ans.value (missingCount (shortfallsOver n m (own s (n * 16) c) (own r (m * 2) c) (fed c xs) 0x0c))
 
 -- there are such lists: a setpoint write to channel 5, which is lent any words at all and refused, then a tick, which is not
 abbrev pub astray : List ℕ → Item

@@ -36,7 +36,7 @@ kindAt words n i = kindOf (words i) (atEnd n i)
 abbrev pub firstSend : (ℕ → ℕ) → ℕ → ℕ → Transmission
 firstSend words n i = transmission.Word (words i) (conditionOf (kindAt words n i))
 
--- a word sent again latches nothing
+-- a word sent again has no condition
 abbrev pub again : ℕ → Transmission
 again word = transmission.Word word 0
 

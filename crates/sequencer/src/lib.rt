@@ -61,7 +61,7 @@ pub struct Sequencer {
     pub missing: u8,
 }
 
-// What a tick sends: nothing, or a word, with the status bit that it latches (0: none).
+// What a tick sends: nothing, or a word, with the status bit that the word latches (0: none).
 pub enum Transmission {
     Nothing,
     Word { word: u32, condition: u8 },
@@ -96,7 +96,7 @@ impl LastSend {
         }
     }
 
-    // How many of the six replies are missing after a send of that Frame ID; none after another send, or no send.
+    // How many of the six replies are missing after a send of Frame ID 15h; none after another send, or no send.
     pub fn shortfall(self) -> u8
         ensures { λ r. ⌜ r ≡ shortfall self ⌝ }
     {
@@ -247,7 +247,7 @@ impl Sequencer {
         next
     }
 
-    // The missing readbacks counted here added to a count from before, which fits its byte.
+    // With a count from before added to the missing readbacks counted here; the count from before fits its byte.
     pub fn missing_after(self, before: u8) -> Sequencer
         ensures { λ r. ⌜ (r ≡ withMissing self (missingWith before (self .missing))) × (before ≤ 255) ⌝ }
     {
