@@ -1,6 +1,6 @@
 -- What ticks in a row latch and count can be said at their end: a word with a condition is repeated from then on, so no other has one; D4 latches in any
 -- order with it, and once; the count of missing readbacks is its own beside the rest of the sequencer. Of any state. Assumes nothing.
-use Prim.Native.Nat.{ℕ, _+_, _-_, _<_, min}
+use Prim.Native.Nat.{ℕ, _+_, _-_, _<_}
 use mathlib.Core.Path.{_≡_, refl, ap, _∙_}
 use mathlib.Core.Logic.{_⊎_, inl, inr}
 use mathlib.Core.Bool.{Bool, true, false, cond}

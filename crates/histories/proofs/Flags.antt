@@ -4,12 +4,10 @@ use Prim.Native.Nat.{ℕ, _≤_}
 use mathlib.Core.Path.{_≡_, refl, sym, _∙_, ap}
 use mathlib.Core.Logic.{_⊎_, inl, inr}
 use mathlib.Core.Bool.{Bool, true, false, cond, not, _&&_, _||_, or-false, or-true}
-use mathlib.Core.List.{List}
 use native.Mathlib.Omega.{arith}
-use lib.ListN.{length, getD}
+use lib.ListN.{getD}
 use lib.Seq.{getD-set-same, getD-set-other}
 use lib.Dec.{eqb, leb}
-use borrow.Author.Tests.{eqb-true, eq-eqb, ne-eqb}
 use Rattle.frame.specs.Frames.{Reading, read, crcRight}
 use Rattle.frame.specs.Frames as frame
 use Rattle.status.specs.Bits.{bitAt}
@@ -30,13 +28,13 @@ use Rattle.channel_core.specs.declared.Channel.{Channel}
 use Rattle.channel_core.specs.Answers.{Answer, isFrame}
 use Rattle.channel_core.specs.Answers as ans
 use Rattle.channel_core.specs.State.{reset, withRegisters, withCommands}
-use Rattle.channel_core.specs.Behaviour.{started, startedIf, endedIf, resumedIf, resumedOn, eventOf, commanded, groupEnded, earlyEnded, userChanged, conditionStatus, sendStatus, isSetpoint, tickLine, playedOf, tickOf, tickAnswer}
-use Rattle.channel_replies.specs.Replying.{crcStatus, dispositionNow, receiptAnswer, receivedChannel, commandReply, replyAs, replyAnswerAs, replyOf, replyAnswer}
+use Rattle.channel_core.specs.Behaviour.{started, startedIf, endedIf, resumedIf, resumedOn, eventOf, commanded, groupEnded, earlyEnded, userChanged, conditionStatus, sendStatus, isSetpoint, playedOf, tickOf, tickAnswer}
+use Rattle.channel_replies.specs.Replying.{crcStatus, dispositionNow, receiptAnswer, receivedChannel, replyAs, replyAnswerAs, replyOf, replyAnswer}
 use Rattle.channel_registers.specs.Calls.{registerEffect, readEffect}
 use Rattle.channel.specs.Calls.{mainTaken, armedOf, disarmedOf}
-use Rattle.channel.specs.OneChannel.{ChannelCall, OneChannel, effect, answer, transition, response, mainRead, mainAnswer, userChange}
+use Rattle.channel.specs.OneChannel.{ChannelCall, OneChannel, effect, answer, transition, response, mainRead, mainAnswer}
 use Rattle.channel.specs.OneChannel as call
-use Rattle.channel.proofs.Cases.{clash, either}
+use Rattle.channel.proofs.Cases.{either}
 use Rattle.histories.specs.History.{entry, asks, readsNothing, resets, readsAt}
 use Rattle.histories.specs.Missing.{shortfallOf}
 use Rattle.histories.specs.Ranges.{StatusInRange}
@@ -45,7 +43,7 @@ use Rattle.histories.proofs.Apart.{ApartIn, apart-nothing}
 use Rattle.histories.proofs.Cases.{at-or-not, by-offset}
 use Rattle.histories.proofs.Refusing.{by-refusal}
 use Rattle.histories.proofs.Steps.{line-sends}
-use Rattle.histories.proofs.Ticks.{Latching, sendWindow, windowOf, plays-ticked}
+use Rattle.histories.proofs.Ticks.{Latching, sendWindow, plays-ticked}
 
 -- Interrupt Status, or Polling Status, and where it is read
 abbrev pub copyOf : (polling : Bool) → Status → Latches

@@ -20,12 +20,12 @@ use Rattle.command_frames.specs.declared.CommandFrames.{CommandFrames}
 use Rattle.command_frames.specs.Commanding.{isDue}
 use Rattle.channel_core.specs.Answers.{Answer, value, bit, isFrame}
 use Rattle.channel_core.specs.Answers as ans
-use Rattle.channel_core.specs.Behaviour.{conditionStatus, sendStatus, conditionIn, isSetpoint, tickLine, playedOf, tickOf, tickAnswer}
+use Rattle.channel_core.specs.Behaviour.{conditionStatus, sendStatus, conditionIn, isSetpoint, playedOf, tickOf, tickAnswer}
 use Rattle.channel_core.specs.State as state
 use Rattle.channel_registers.specs.Calls.{readValue}
 use Rattle.channel.specs.OneChannel.{ChannelCall, OneChannel, oneChannel, refusalOf, effect, answer, transition, response, transitions, readRegister, tick}
-use Rattle.histories.specs.History.{entry, resets, readsAt, Told, told, toldOf, sendsSetpoint}
-use Rattle.histories.specs.Windows.{Window, closed, windowAfter, windowSince}
+use Rattle.histories.specs.History.{entry, Told, told, sendsSetpoint}
+use Rattle.histories.specs.Windows.{Window}
 use Rattle.histories.specs.Ranges.{ChannelInRange}
 use Rattle.histories.specs.Missing.{shortfallOf, shortfallBy, clears, shortfallsSince, shortfallsOver, isEmpty, missingCount, CountsMissing, ReadsBit, LatchesShortfalls, tickTold, tickFinds, tickCondition, TickLatches, MainBits, RaisesMain}
 use Rattle.histories.proofs.Ticks.{sendWindow, windowOf}
@@ -34,7 +34,7 @@ use Rattle.histories.proofs.Apart.{apart-nothing}
 use Rattle.histories.proofs.Depths.{depths-kept}
 use Rattle.histories.proofs.Refusing.{accepted-transition, accepted-response}
 use Rattle.histories.proofs.Parts.{opened-range}
-use Rattle.histories.proofs.Ranges.{channel-step, channel-from, Ordered, ordered-opened, ordered-step, ordered-from}
+use Rattle.histories.proofs.Ranges.{channel-step, Ordered, ordered-opened, ordered-step, ordered-from}
 use Rattle.histories.proofs.Commands.{toldFrom, told-next, commands-told}
 use Rattle.histories.proofs.Windows.{window-is}
 use Rattle.histories.proofs.Steps.{line-sends}
