@@ -1,6 +1,6 @@
 -- What a call that is not refused answers is no refusal. Assumes nothing.
 use Prim.Native.Nat.{ℕ, _*_}
-use mathlib.Core.Path.{_≡_, refl, sym, _∙_}
+use mathlib.Core.Path.{_≡_, refl, sym, _∙_, ap}
 use mathlib.Core.Bool.{Bool, true, false, cond}
 use native.Mathlib.Omega.{arith}
 use lib.Dec.{eqb}
@@ -69,6 +69,11 @@ pub framed-accepted : (o : OneChannel) (number : ℕ) {id word aux crc : ℕ} �
     → eqb (refusalOf o (call.reply (o .m * 8) number)) 0 ≡ true
 unfolding refusalOf
 framed-accepted o number framed = rw (eq-eqb (o .m * 8) (o .m * 8) refl, framed)
+
+-- nor is a tick
+pub tick-accepted : (o : OneChannel) (n : ℕ) → o .n ≡ n → eqb (refusalOf o (call.tick (n * 64))) 0 ≡ true
+unfolding refusalOf
+tick-accepted o n e = rw (eq-eqb (n * 64) (o .n * 64) (ap (λ (x : ℕ). x * 64) (sym e)))
 
 pub accepted-answer : (o : OneChannel) (k : ChannelCall) → eqb (refusalOf o k) 0 ≡ true → NoRefusal (answer o k)
 unfolding refusalOf answer tickAnswer

@@ -93,7 +93,7 @@ main-sequencer c offset =
     either (Has (c .sequencer)) (eqb offset 0x28) (taken-sequencer c false)
     (either (Has (c .sequencer)) (eqb offset 0x2a) (taken-sequencer c true) refl)
 
-main-plain : (c : Channel) (offset : ℕ) → Plain (mainAnswer c offset)
+pub main-plain : (c : Channel) (offset : ℕ) → Plain (mainAnswer c offset)
 main-plain c offset = go (eqb offset 0x28) (eqb offset 0x2a)
   where
     go : (a b : Bool) → Plain (cond a (ans.bit (c .status .interrupt .main)) (cond b (ans.bit (c .status .polling .main)) ans.done))

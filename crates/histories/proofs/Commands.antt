@@ -33,7 +33,7 @@ use Rattle.channel.proofs.Cases.{clash, either}
 use Rattle.histories.specs.History.{isKept, entry, history, asks, repliedTo, tickedBy, writtenBy, commandsAfter, commandsSince, Told, told}
 use Rattle.histories.specs.Commands.{commandsOver, CommandsTold, CommandsRead, NeverTogether, CommandTicks}
 use Rattle.histories.proofs.Cases.{by-offset}
-use Rattle.histories.proofs.Accepted.{accepted-answer}
+use Rattle.histories.proofs.Accepted.{tick-accepted, accepted-answer}
 use Rattle.histories.proofs.Refusing.{accepted-response}
 use Rattle.histories.proofs.Depths.{depths-kept}
 use Rattle.histories.proofs.Leaves.{leaves-event, leaves-command, leaves-read, leaves-main}
@@ -194,7 +194,7 @@ module _ (n m : ℕ) (setpoints readbacks : List ℕ) (ks : List ChannelCall) wh
   unfolding refusalOf answer tickAnswer
   tick-answers =
       accepted-response o (tick (n * 64))
-      (rw (eq-eqb (n * 64) (o .n * 64) (ap (λ (x : ℕ). x * 64) (sym (depths-kept (oneChannel n m setpoints readbacks) ks .0)))))
+      (tick-accepted o n (depths-kept (oneChannel n m setpoints readbacks) ks .0))
       ∙ ap
       (λ (f : CommandFrames).
       tickLine (o .channel .registers .id) f (playedOf (o .channel) (o .setpoints) (o .n) (o .user) .transmission)) held

@@ -32,7 +32,7 @@ use Rattle.channel_core.specs.Behaviour.{started, startedIf, endedIf, resumedIf
 use Rattle.channel_replies.specs.Replying.{crcStatus, dispositionNow, receiptAnswer, receivedChannel, replyAs, replyAnswerAs, replyOf, replyAnswer}
 use Rattle.channel_registers.specs.Calls.{registerEffect, readEffect}
 use Rattle.channel.specs.Calls.{mainTaken, armedOf, disarmedOf}
-use Rattle.channel.specs.OneChannel.{ChannelCall, OneChannel, effect, answer, transition, response, mainRead, mainAnswer}
+use Rattle.channel.specs.OneChannel.{ChannelCall, OneChannel, effect, answer, transition, response, mainRead}
 use Rattle.channel.specs.OneChannel as call
 use Rattle.channel.proofs.Cases.{either}
 use Rattle.histories.specs.History.{entry, asks, readsNothing, resets, readsAt}
@@ -40,6 +40,7 @@ use Rattle.histories.specs.Missing.{shortfallOf}
 use Rattle.histories.specs.Ranges.{StatusInRange}
 use Rattle.histories.proofs.Accepted.{query-plain}
 use Rattle.histories.proofs.Apart.{ApartIn, apart-nothing}
+use Rattle.histories.proofs.Calls.{main-plain}
 use Rattle.histories.proofs.Cases.{at-or-not, by-offset}
 use Rattle.histories.proofs.Refusing.{by-refusal}
 use Rattle.histories.proofs.Steps.{line-sends}
@@ -248,10 +249,6 @@ module _ (polling : Bool) where
       go (frame.refused k) = refl
       go (frame.fields id word aux crc) = either (λ (a : Answer). isFrame a ≡ false) (takes (c .commands)) refl (disposed (dispositionNow c m))
 
-  main-plain : (c : Channel) (offset : ℕ) → isFrame (mainAnswer c offset) ≡ false
-  main-plain c offset =
-      let P : Answer → Type 0 = λ a. isFrame a ≡ false in either P (eqb offset 0x28) refl (either P (eqb offset 0x2a) refl refl)
-
   effect-steps : (o : OneChannel) (k : ChannelCall) → ApartIn (o .channel) → StatusInRange (o .channel .status)
       → Steps (o .channel) (answer o k) (asks o k .reset) (asks o k .reads) (effect o k .channel .status)
   unfolding effect answer armedOf disarmedOf userChanged
@@ -270,7 +267,7 @@ module _ (polling : Bool) where
       (either (λ (x : OneChannel). Keeps (o .channel) (x .channel)) (eqb user (o .user)) refl (same-early (o .channel .status) (o .channel .sequencer)))
   effect-steps o (call.writeMain lent offset value) p r = plain-steps (o .channel) _ _ refl refl
   effect-steps o (call.readMain offset) p r =
-      plain-steps (o .channel) _ _ (main-plain (o .channel) offset) (keeps-main (o .channel) offset)
+      plain-steps (o .channel) _ _ (main-plain (o .channel) offset .0) (keeps-main (o .channel) offset)
 
   -- any call
   pub flag-step : (o : OneChannel) (k : ChannelCall) → ApartIn (o .channel) → StatusInRange (o .channel .status)

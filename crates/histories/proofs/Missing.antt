@@ -6,7 +6,7 @@ use mathlib.Core.Bool.{Bool, true, false, cond, not, _&&_, _||_}
 use mathlib.Core.List.{List, [], _∷_, _++_}
 use native.Mathlib.Omega.{arith}
 use lib.Dec.{eqb}
-use borrow.Author.Tests.{eqb-true, eq-eqb}
+use borrow.Author.Tests.{eqb-true}
 use Rattle.status.specs.Bits.{bitAt, wordOfBits}
 use Rattle.status.specs.declared.Status.{Status}
 use Rattle.status.specs.Latching.{latchedIn, latched, missingReadback}
@@ -19,7 +19,6 @@ use Rattle.sequencer.specs.Playing.{shortfall}
 use Rattle.command_frames.specs.declared.CommandFrames.{CommandFrames}
 use Rattle.command_frames.specs.Commanding.{isDue}
 use Rattle.channel_core.specs.Answers.{Answer, value, bit, isFrame}
-use Rattle.channel_core.specs.Answers as ans
 use Rattle.channel_core.specs.Behaviour.{conditionStatus, sendStatus, conditionIn, isSetpoint, playedOf, tickOf, tickAnswer}
 use Rattle.channel_core.specs.State as state
 use Rattle.channel_registers.specs.Calls.{readValue}
@@ -30,6 +29,7 @@ use Rattle.histories.specs.Ranges.{ChannelInRange}
 use Rattle.histories.specs.Missing.{shortfallOf, shortfallBy, clears, shortfallsSince, shortfallsOver, isEmpty, missingCount, CountsMissing, ReadsBit, LatchesShortfalls, tickTold, tickFinds, tickCondition, TickLatches, MainBits, RaisesMain}
 use Rattle.histories.proofs.Ticks.{sendWindow, windowOf}
 use Rattle.histories.proofs.Calls.{steps}
+use Rattle.histories.proofs.Accepted.{tick-accepted}
 use Rattle.histories.proofs.Apart.{apart-nothing}
 use Rattle.histories.proofs.Depths.{depths-kept}
 use Rattle.histories.proofs.Refusing.{accepted-transition, accepted-response}
@@ -187,10 +187,6 @@ send-latches s l (transmission.Word word k) = go (eqb (shortfallOf (sendWindow l
     go true = refl
     go false = refl
 
-tick-accepted : (o : OneChannel) (n : ℕ) → o .n ≡ n → eqb (refusalOf o (tick (n * 64))) 0 ≡ true
-unfolding refusalOf
-tick-accepted o n e = rw (eq-eqb (n * 64) (o .n * 64) (ap (λ (x : ℕ). x * 64) (sym e)))
-
 module _ (n m : ℕ) (setpoints readbacks : List ℕ) (ks : List ChannelCall) where
   abbrev o : OneChannel
   o = transitions (oneChannel n m setpoints readbacks) ks
@@ -233,19 +229,10 @@ main-bits o = record { main-28 = refl; main-2a = refl }
 
 reads-enable : (o : OneChannel) (b : Bool) → ReadsBit missingReadback o 0x00 b → bitAt (o .channel .status .enable) missingReadback ≡ b
 unfolding channelAccess response refusalOf answer readValue
-reads-enable o b r = ap (λ (x : ℕ). bitAt x missingReadback) (value-is (r .answers)) ∙ r .bit-is
+reads-enable o b r = ap (λ (x : ℕ). bitAt x missingReadback) (value-is (o .channel .status .enable) (r .word) (r .answers)) ∙ r .bit-is
   where
-    held : Answer → ℕ
-    held (ans.refused k) = 0
-    held (ans.value v) = v
-    held (ans.frame f) = 0
-    held ans.kept = 0
-    held ans.lost = 0
-    held (ans.part s) = 0
-    held (ans.other x) = 0
-
-    value-is : {v w : ℕ} → value v ≡ value w → v ≡ w
-    value-is e = ap held e
+    value-is : (v w : ℕ) → value v ≡ value w → v ≡ w
+    value-is v w e = cc
 
 -- a condition leaves a Main bit that is set
 condition-raised : (s : Status) (k : ℕ) → s .interrupt .main ≡ true → s .polling .main ≡ true

@@ -60,8 +60,8 @@ played o k = ticks (wordAt o) (o .n) (period o) (o .channel .registers .id) (o .
 abbrev pub plays : OneChannel → ℕ → Transmission
 plays o j = sends (wordAt o) (o .n) (period o) (o .channel .registers .id) (o .channel .sequencer) j
 
--- depths, user, registers (E0, E2 and E4–FA too; of 00 nothing is said, and sends change 02, 04, 0C and FE) and setpoint words are the same: so are its words, period,
--- delays and Frame ID
+-- depths, user, registers (E0, E2 and E4–FA too; of 00 nothing is said, and sends change 02, 04, 0C and FE) and setpoint words are the same: so are
+-- its words, period, delays and Frame ID
 pub record Keeps (o p : OneChannel) : Type 0 where
   pub same-n : p .n ≡ o .n
   pub same-m : p .m ≡ o .m
