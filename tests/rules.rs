@@ -49,8 +49,9 @@ const RECORDED: &[(&str, &str, usize, &str)] = &[
     (RULES, "document 01", 12836, "fbe055717a213fa1f2da2d30af2a07d97468556963ed01d9a36c4ea7241166e6"),
     (RULES, "card 1", 1096, "cb67ec1f20e0ef75abf3acd962853cf5ae815772bf67221802b1f90b0cc82c4e"),
     (RULES, "card 2", 578, "a2db8f172be354d06e8417114973b58e127b28f137c6d03222f5c86e477c6930"),
-    (DECISIONS, "document 01", 8461, "cf5482d3e47841fb87a201edad0c514e7c2afbd3ac5a78ab2b1a3926006fe74e"),
-    (DECISIONS, "document 02", 1500, "db26e19fbf2c4c6901241dda1528027518c4d5d78205d189f2d1a26f9e4f7c38"),
+    (RULES, "card 3", 387, "9efba1c5c4f30da75ed0aa8e571a164f74016aa098153631a7c7bb34f2a8e345"),
+    (DECISIONS, "document 01", 8655, "bd57d0a3a21710dba55ef70f652aaa681379ff54464a4877745294b0ca4646e8"),
+    (DECISIONS, "document 02", 1697, "69121ea6726c27864612f36569afa727d60ad79aa02d934e522ec74238a72044"),
 ];
 
 // The entries of DECISIONS.md that a page cites: "entry D1", "Entry D1", "entries D1 (..) and D2", "entries D1 to D2".

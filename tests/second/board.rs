@@ -1,11 +1,13 @@
 //! The four-channel board, from documents 01, 000 and 02: its calls. Quotations are document 01's.
 
 mod command;
+mod end_word;
 mod life;
 mod missing;
 mod replies;
 
 pub use self::replies::Reply;
+use self::end_word::Groups;
 use self::life::Asked;
 use self::missing::Watch;
 use crate::channel::{Channel, Hold, Window, ACTIVE, CLOCK, END, START, SWITCH};
@@ -45,14 +47,15 @@ pub struct Board {
     pub tally: Tally,
     /// For the tally alone.
     watch: [Watch; 4],
+    groups: [Groups; 4],
 }
 
 impl Board {
     /// "all registers 0, channels disarmed, user 1, buffers 1 active, no readbacks"
     fn blank(n: u32, m: u32) -> Board {
         let ch = [Channel::new(), Channel::new(), Channel::new(), Channel::new()];
-        let watch = Default::default();
-        Board { n, m, user: 1, now: 0, level: 0, vector: 0, enable: 0, main: [0, 0], ch, tally: Tally::new(), watch }
+        let (watch, groups) = Default::default();
+        Board { n, m, user: 1, now: 0, level: 0, vector: 0, enable: 0, main: [0, 0], ch, tally: Tally::new(), watch, groups }
     }
 
     /// Misfit: "a depth out of range, or lent lengths other than 64 × N and 8 × M". What a
@@ -115,6 +118,7 @@ impl Board {
         self.drop_command(c, Did::command_dropped_by_reset);
         self.close_window(c, Window::Closed);
         self.watch_reset(c);
+        self.watch_group_reset(c);
         self.ch[c] = Channel::new();
     }
 

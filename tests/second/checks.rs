@@ -1,4 +1,6 @@
-//! `selftest`: document 01's starred examples, run on this program.
+//! `selftest`: document 01's starred examples, and examples of document 02's request 3, run on this program.
+
+mod end_word;
 
 use crate::board::{Board, Reply};
 use crate::frame::{crc, frame};
@@ -13,8 +15,12 @@ struct Small {
 impl Small {
     /// Channel 1 armed, period 10, with these words.
     fn new(words: &[u32]) -> Small {
-        let (n, m) = (4, 7);
-        let mut t = Small { b: Board::open(n, m, 256, 56).0, s: vec![0; 256], r: vec![0; 56] };
+        Small::of_depth(7, words)
+    }
+    /// The same, of this depth M.
+    fn of_depth(m: u32, words: &[u32]) -> Small {
+        let (s, r) = (vec![0; 256], vec![0; 8 * m as usize]);
+        let mut t = Small { b: Board::open(4, m, s.len(), r.len()).0, s, r };
         for (i, &w) in words.iter().enumerate() {
             t.b.set(1, 1, 1, i as u32, w, &mut t.s).unwrap();
         }
@@ -40,7 +46,7 @@ impl Small {
 type Done = Vec<(&'static str, bool)>;
 
 pub fn all() -> Done {
-    [frames(), starts(), resumes(), kept_words(), files()].concat()
+    [frames(), starts(), resumes(), kept_words(), files(), end_word::all()].concat()
 }
 
 fn frames() -> Done {

@@ -8,6 +8,7 @@
 mod acts;
 mod commands;
 mod dice;
+mod end_word;
 mod files;
 mod missing;
 mod story;

@@ -20,7 +20,7 @@ tallies! {
     start_by_event start_by_command start_disarmed restart restart_after_last restart_from_pause
     run_latched eof_latched ee_by_group_end ee_by_user_change
     group_end_by_event group_end_by_command group_end_not_idle group_end_idle group_end_disarmed
-    group_end_then_start start_then_resume end_word end_word_without_space
+    group_end_then_start start_then_resume
     switch_current_user switch_other_user switch_withdrawn
     user_changed user_same disarm_not_idle disarm_idle arm_armed reset_not_idle reset_idle reset_without_d0
     kept lost unasked_idle unasked_before_send unasked_seventh kept_in_new_start_delay
@@ -62,6 +62,17 @@ tallies! {
     missing_count_read missing_255_read missing_d4_kept_over_count_read
     missing_kept_over_group_end missing_kept_over_disarm missing_kept_over_user_change missing_kept_over_status_read
     missing_cleared_by_read missing_cleared_by_reset missing_cleared_by_opening missing_count_written
+    end_word end_word_of_empty_group end_word_of_two_empty_groups end_word_in_last_place_but_one end_word_right_after_lost
+    end_word_in_last_place_by_event end_word_in_last_place_by_command end_word_in_last_place_with_start
+    end_word_in_last_place_while_idle end_word_in_last_place_while_disarmed end_word_in_last_place_of_buffer_2
+    end_word_in_last_word_lent end_word_in_last_place_with_none_lost
+    end_word_older_in_same_place end_word_older_stands_after end_word_older_stands_in_last_place
+    end_word_older_overwritten_by_readback
+    end_word_in_same_buffer_after_reset end_word_after_reset_of_full end_word_reply_kept_after_reset_of_full
+    end_word_reply_fills end_word_reply_lost end_word_reply_lost_after_one_kept end_word_reply_kept_after_full
+    end_word_of_depth_1_reply_lost end_word_of_depth_1_sixth_lost end_word_of_depth_1_after_lost
+    end_word_of_depth_1_command_reply end_word_of_depth_1_part end_word_of_depth_2_in_last_place
+    end_word_part_of_full_buffer end_word_part_empty_after_reset end_word_in_part end_word_of_closed_board
 }
 
 #[derive(Clone)]

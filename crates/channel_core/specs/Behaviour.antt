@@ -1,5 +1,6 @@
 -- Document 01, 'A channel's life': what a channel does, over its own part of the lent memory (16 × N setpoint words, 2 × M readback words).
--- Document 02, card 1: command frames, at a tick and a Group End; card 2: what a setpoint send latches for the send before it.
+-- Document 02, card 1: command frames, at a tick and a Group End; card 2: what a setpoint send latches for the send before it; card 3: an end word at
+-- every Group End.
 use Prim.Native.Nat.{ℕ, _+_, _-_, _*_, _%_}
 use mathlib.Core.Bool.{Bool, true, false, cond}
 use mathlib.Core.List.{List}
@@ -62,7 +63,7 @@ groupEnded c =
       commands = cmd.groupEnded (c .commands);
     }
 
--- "02000000h goes after the stored readbacks if there is space (bench)", before the buffers switch
+-- "02000000h goes after the stored readbacks ..", before the buffers switch; card 3: "Group End always writes the end word."
 unfoldable pub groupWords : Channel → List ℕ → ℕ → List ℕ
 groupWords c s m = endWords (c .readbacks) s (secondActive (c .registers) readbackPlace) m
 
@@ -102,7 +103,7 @@ eventOf c user code =
     (delayOf (c .registers) 0 user))
     user code
 
--- its readback words after an event: Group End may write an end word
+-- its readback words after an event: Group End writes an end word
 unfoldable pub eventWords : Channel → List ℕ → ℕ → ℕ → List ℕ
 eventWords c s m code = endedWords (triggersOf (c .registers) groupEndEvent code) c s m
 

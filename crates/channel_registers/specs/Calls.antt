@@ -51,7 +51,7 @@ writtenOf c offset value = cond (eqb (registerRefusal c offset value) 0) (regist
 unfoldable pub writtenAnswer : Channel → ℕ → ℕ → Answer
 writtenAnswer c offset value = unless (registerRefusal c offset value) ans.done
 
--- its readback words: Commands may write an end word
+-- its readback words: Commands with D2 writes an end word
 unfoldable pub registerWords : Channel → List ℕ → ℕ → ℕ → ℕ → List ℕ
 registerWords c s m offset value = cond (eqb offset 0x08) (commandWords c s m value) s
 

@@ -3,4 +3,5 @@ pub mod Resumes
 pub mod Starred
 pub mod CommandRows
 pub mod MissingRows
+pub mod EndWordRows
 pub mod Reached

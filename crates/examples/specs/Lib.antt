@@ -3,3 +3,4 @@ pub mod Starred
 pub mod Reached
 pub mod CommandRows
 pub mod MissingRows
+pub mod EndWordRows

@@ -1,6 +1,6 @@
 -- Document 01, 'Marked * and unmarked examples': the channels that the rows of Starred.antt speak of exist. Opened with depths 2 and 1 and zeroed words,
 -- and led there by calls.
-use Prim.Native.Nat.{ℕ}
+use Prim.Native.Nat.{ℕ, _*_}
 use mathlib.Core.Path.{_≡_}
 use mathlib.Core.Bool.{true}
 use mathlib.Core.List.{List, [], _∷_}
@@ -10,8 +10,12 @@ use Rattle.channel.specs.OneChannel.{OneChannel, ChannelCall, writeRegister, wr
 use Rattle.timing.specs.Timing.{triggeredBy, delay}
 use Rattle.examples.specs.Starred.{PauseOne}
 
+-- opened with depths 2 and M, and led by these calls
+abbrev pub ledAt : (m : ℕ) → List ChannelCall → OneChannel
+ledAt m calls = transitions (oneChannel 2 m (replicate 32 0) (replicate (m * 2) 0)) calls
+
 abbrev pub led : List ChannelCall → OneChannel
-led calls = transitions (oneChannel 2 1 (replicate 32 0) (replicate 2 0)) calls
+led calls = ledAt 1 calls
 
 -- Start event 0, and this start delay of user 1
 abbrev pub starting : (high low : ℕ) → OneChannel

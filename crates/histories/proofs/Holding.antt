@@ -1,17 +1,17 @@
 -- What a channel holds of readbacks against what was kept: through a Group End, a reset, a kept reply. Assumes nothing.
-use Prim.Native.Nat.{ℕ, _+_, _*_, _≤_}
+use Prim.Native.Nat.{ℕ, _+_, _*_, _≤_, _<_}
 use mathlib.Core.Path.{_≡_, refl, sym, _∙_, ap, subst}
 use mathlib.Core.Bool.{Bool, true, false, not, Bool·not-not}
 use mathlib.Core.List.{List, [], _∷_, _++_, append-nil}
 use lib.ListN.{length, length-append, length-set}
 use lib.Dec.{ltb}
+use native.Mathlib.Omega.{arith}
 use borrow.Author.Tests.{ltb-true}
 use Rattle.registers.specs.Map.{secondActive, readbackPlace}
 use Rattle.readback.specs.declared.Readbacks.{Readbacks}
 use Rattle.readback.specs.Storing.{capacity, keptIn, keptWords, endWord, endWords}
 use Rattle.readback.specs.Storing as rb
 use Rattle.channel.specs.OneChannel.{OneChannel}
-use Rattle.channel.proofs.Cases.{either}
 use Rattle.histories.specs.Keeping.{Kept, nothingKept, switched, keptWith}
 use Rattle.histories.proofs.Buffers.{front, front-more, front-left, front-other}
 
@@ -28,27 +28,20 @@ HoldsIn o g = Holds (o .m) (secondActive (o .channel .registers) readbackPlace) 
 -- ---- Group End, reset, a kept reply
 
 module _ (m : ℕ) (r : Readbacks) (s : List ℕ) (g : Kept) where
-  end-held : (second : Bool) → front second m (r .stored) (endWords r s second m) ≡ front second m (r .stored) s
-  end-held second =
-      either (λ (t : List ℕ). front second m (r .stored) t ≡ front second m (r .stored) s) (ltb (r .stored) m)
-      (front-left second m (r .stored) endWord s) refl
-
-  end-long : (second : Bool) → length (endWords r s second m) ≡ length s
-  end-long second = either (λ (t : List ℕ). length t ≡ length s) (ltb (r .stored) m) (length-set s _ _) refl
-
   pub holds-ended : (second : Bool) → Holds m second r s g → Holds m (not second) (rb.groupEnded r) (endWords r s second m) (switched g)
   holds-ended second h =
       record {
         stored = refl;
         retired = h .stored;
         active = λ l. refl;
-        inactive = λ l. rw (Bool·not-not second) (end-held second ∙ h .active (sym (end-long second) ∙ l));
+        inactive = λ l. rw (Bool·not-not second) (front-left second m (r .stored) endWord s ∙ h .active (sym (length-set s _ _) ∙ l));
       }
 
-  pub holds-kept : (second : Bool) (word : ℕ) → ltb (r .stored) (capacity m) ≡ true → r .retired ≤ m → Holds m second r s g
+  pub holds-kept : (second : Bool) (word : ℕ) → ltb (r .stored) (capacity m) ≡ true → r .retired ≤ capacity m → Holds m second r s g
       → Holds m second (keptIn r m) (keptWords r s second m word) (keptWith g (word ∷ []))
   holds-kept second word e few h =
-      let less = ltb-true (r .stored) m e in
+      let less : r .stored < m = omega (arith, ltb-true (r .stored) (capacity m) e) in
+      let fewer : r .retired ≤ m = omega arith in
       rw e
       (record {
         stored = ap (λ (x : ℕ). x + 1) (h .stored) ∙ sym (length-append (g .current) (word ∷ []));
@@ -60,7 +53,7 @@ module _ (m : ℕ) (r : Readbacks) (s : List ℕ) (g : Kept) where
         inactive =
             λ l.
             let long = sym (length-set s _ _) ∙ l in
-            front-other second m (r .stored) (r .retired) word s less few ∙ h .inactive long;
+            front-other second m (r .stored) (r .retired) word s less fewer ∙ h .inactive long;
       })
 
   pub holds-none : (second : Bool) → Holds m second r s g → Holds m second r s (keptWith g [])

@@ -1,9 +1,10 @@
 -- The stored readbacks are the words of the replies that were answered kept, but for those to E4–FA, and the retired part those of the group before.
 -- Assumes nothing.
-use Prim.Native.Nat.{ℕ, _*_}
+use Prim.Native.Nat.{ℕ, _*_, _≤_}
 use mathlib.Core.Path.{_≡_, refl, sym, _∙_, ap, subst, subst₂}
 use mathlib.Core.Bool.{Bool, true, false, cond, not, _&&_}
 use mathlib.Core.List.{List, [], _∷_}
+use native.Mathlib.Omega.{arith}
 use lib.ListN.{length, getD}
 use lib.Dec.{eqb, leb, ltb}
 use borrow.Author.Tests.{eq-eqb}
@@ -11,7 +12,7 @@ use Rattle.frame.specs.Frames.{Reading, read, crcRight}
 use Rattle.frame.specs.Frames as frame
 use Rattle.status.specs.Bits.{bitAt}
 use Rattle.registers.specs.declared.Registers.{Registers}
-use Rattle.registers.specs.Map.{secondActive, readbackPlace, triggersOf, groupEndEvent, stored}
+use Rattle.registers.specs.Map.{secondActive, readbackPlace, triggersOf, groupEndEvent}
 use Rattle.registers.proofs.Laws.{readbacks-switch}
 use Rattle.sequencer.specs.Playing.{isIdle}
 use Rattle.readback.specs.declared.Readbacks.{Readbacks}
@@ -39,6 +40,7 @@ use Rattle.histories.proofs.Cases.{by-offset}
 use Rattle.histories.proofs.Refusing.{by-refusal, accepted-response}
 use Rattle.histories.proofs.Depths.{depths-kept}
 use Rattle.histories.proofs.Leaves.{Leaves, leaves-all, leaves-event, leaves-command, leaves-read, leaves-main}
+use Rattle.histories.proofs.Active.{stored-active}
 use Rattle.histories.proofs.Buffers.{front-retired}
 use Rattle.histories.proofs.Ranges.{stays, channel-step, channel-from, Ordered, ordered-opened, ordered-step}
 use Rattle.histories.proofs.Commands.{toldFrom, told-next}
@@ -50,17 +52,6 @@ use Rattle.histories.proofs.Holding.{Holds, HoldsIn, holds-ended, holds
 -- what is kept by a call with this answer, a command frame taking a reply or not; it is a Group End or not, a reset or not, and would store these words
 abbrev keptBy : Kept → Answer → Bool → Bool → Bool → List ℕ → Kept
 keptBy g a taken ends again words = cond again nothingKept (cond ends (switched g) (keptWith g (cond (isKept a && not taken) words [])))
-
-stored-active : (r : Registers) (offset value : ℕ) → stored r offset value .active ≡ r .active
-unfolding stored
-stored-active r offset value =
-    let P : Registers → Type 0 = λ x. x .active ≡ r .active in
-    either P (eqb offset 0x0a) refl
-    (either P (eqb offset 0x14) refl
-    (either P (ltb offset 0x20) refl
-    (either P (ltb offset 0x2c) refl
-    (either P (ltb offset 0x30) refl
-    (either P (ltb offset 0x40) refl (either P (ltb offset 0xe0) refl refl))))))
 
 -- the word of a reply with these fields
 abbrev wordOf : OneChannel → ℕ → ℕ → ℕ → ℕ → ℕ
@@ -191,7 +182,7 @@ module _ (g : Kept) where
   effect-holds o (call.readMain offset) r h =
       plain o (isKept (mainAnswer (o .channel) offset) && not (takes (o .channel .commands))) _ (leaves-main (o .channel) offset) h
 
-  holds-step : (o : OneChannel) (k : ChannelCall) → ChannelInRange (o .m) (o .channel) → HoldsIn o g
+  pub holds-step : (o : OneChannel) (k : ChannelCall) → ChannelInRange (o .m) (o .channel) → HoldsIn o g
       → HoldsIn (transition o k) (keptAfter g (record { entry = entry o k; commands = o .channel .commands }))
   holds-step o k r h =
       by-refusal (λ (x : OneChannel) (a : Answer) (ends again stops : Bool) (reads : ℕ → Bool). HoldsIn x (keptBy g a (takes (o .channel .commands)) ends again (asks o k .word))) o k
@@ -208,7 +199,7 @@ holds-from o (k ∷ ks) g a r h =
     subst (λ (ts : List Told). HoldsIn (transitions (transition o k) ks) (keptSince g ts)) (sym (told-next o k ks (a .apart)))
     (holds-from (transition o k) ks (keptAfter g t) (ordered-step o k a) (channel-step o k r) (holds-step g o k r h))
 
-holds-over : (n m : ℕ) (setpoints readbacks : List ℕ) (ks : List ChannelCall)
+pub holds-over : (n m : ℕ) (setpoints readbacks : List ℕ) (ks : List ChannelCall)
     → HoldsIn (transitions (oneChannel n m setpoints readbacks) ks) (keptOver n m setpoints readbacks ks)
 unfolding state.opened
 holds-over n m setpoints readbacks ks =
@@ -219,17 +210,18 @@ counts-kept n m setpoints readbacks ks =
     let h = holds-over n m setpoints readbacks ks in
     (h .stored, h .retired)
 
-words-long : (o : OneChannel) (ks : List ChannelCall) → length (transitions o ks .readbacks) ≡ length (o .readbacks)
+pub words-long : (o : OneChannel) (ks : List ChannelCall) → length (transitions o ks .readbacks) ≡ length (o .readbacks)
 words-long o [] = refl
 words-long o (k ∷ ks) = words-long (transition o k) ks ∙ stays o k .readback-words
 
-retires : (o : OneChannel) (m : ℕ) (g : Kept) → o .m ≡ m → length (o .readbacks) ≡ m * 2 → ChannelInRange (o .m) (o .channel) → HoldsIn o g
+pub retires : (o : OneChannel) (m : ℕ) (g : Kept) → o .m ≡ m → length (o .readbacks) ≡ m * 2 → ChannelInRange (o .m) (o .channel) → HoldsIn o g
     → (response o (call.query call.retired m m) ≡ part (g .retired)) × (response o (call.query call.retiredLength m m) ≡ partLength (length (g .retired)))
 unfolding answer retiredOf refusalOf
 retires o m g d l r h =
     let fits : eqb m (o .m) ≡ true = eq-eqb m (o .m) (sym d) in
+    let few : o .channel .readbacks .retired ≤ o .m = omega (arith, r .readbacks .retired) in
     let e : retiredOf o ≡ g .retired =
-    front-retired (secondActive (o .channel .registers) readbackPlace) (o .m) (o .channel .readbacks .retired) (o .readbacks) (r .readbacks .retired)
+    front-retired (secondActive (o .channel .registers) readbackPlace) (o .m) (o .channel .readbacks .retired) (o .readbacks) few
     ∙ h .inactive (l ∙ ap (λ (x : ℕ). x * 2) (sym d)) in (
       accepted-response o (call.query call.retired m m) (rw fits) ∙ ap part e,
       accepted-response o (call.query call.retiredLength m m) (rw fits) ∙ ap (λ (t : List ℕ). partLength (length t)) e,

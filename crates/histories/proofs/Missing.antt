@@ -26,7 +26,8 @@ use Rattle.channel.specs.OneChannel.{ChannelCall, OneChannel, oneChannel, refus
 use Rattle.histories.specs.History.{entry, Told, told, sendsSetpoint}
 use Rattle.histories.specs.Windows.{Window}
 use Rattle.histories.specs.Ranges.{ChannelInRange}
-use Rattle.histories.specs.Missing.{shortfallOf, shortfallBy, clears, shortfallsSince, shortfallsOver, isEmpty, missingCount, CountsMissing, ReadsBit, LatchesShortfalls, tickTold, tickFinds, tickCondition, TickLatches, MainBits, RaisesMain}
+use Rattle.histories.specs.Statuses.{ReadsBit}
+use Rattle.histories.specs.Missing.{shortfallOf, shortfallBy, clears, shortfallsSince, shortfallsOver, isEmpty, missingCount, CountsMissing, LatchesShortfalls, tickTold, tickFinds, tickCondition, TickLatches, MainBits, RaisesMain}
 use Rattle.histories.proofs.Ticks.{sendWindow, windowOf}
 use Rattle.histories.proofs.Calls.{steps}
 use Rattle.histories.proofs.Accepted.{tick-accepted}

@@ -255,8 +255,8 @@ module _ (m : ℕ) where
   kept-range r h =
       record {
         stored =
-            by-test (λ (x : ℕ). x ≤ m) (ltb (r .stored) (capacity m))
-            (λ e. omega (arith, ltb-true (r .stored) m e)) (λ e. h .stored);
+            by-test (λ (x : ℕ). x ≤ capacity m) (ltb (r .stored) (capacity m))
+            (λ e. omega (arith, ltb-true (r .stored) (capacity m) e)) (λ e. h .stored);
         retired = h .retired;
       }
 

@@ -8,3 +8,4 @@ pub mod Replying
 pub mod Statuses
 pub mod Missing
 pub mod Ranges
+pub mod EndWords

@@ -6,13 +6,13 @@ use mathlib.Core.Path.{_≡_}
 use mathlib.Core.Bool.{Bool, true, false, cond, not, _&&_, _||_}
 use mathlib.Core.List.{List, [], _∷_, _++_}
 use lib.Dec.{eqb}
-use Rattle.status.specs.Bits.{bitAt}
 use Rattle.status.specs.Latching.{latched}
 use Rattle.channel_core.specs.Answers.{Answer, value, bit}
 use Rattle.channel_core.specs.Behaviour.{playedOf, conditionStatus, conditionIn}
 use Rattle.channel.specs.OneChannel.{ChannelCall, OneChannel, oneChannel, transition, response, transitions, readRegister, readMain, tick}
 use Rattle.histories.specs.History.{entry, Told, toldOf, resets, readsAt, sendsSetpoint}
 use Rattle.histories.specs.Commands.{commandsOver}
+use Rattle.histories.specs.Statuses.{ReadsBit}
 use Rattle.histories.specs.Windows.{Window, closed, windowAfter, windowSince}
 
 -- ---- The shortfalls that answers tell
@@ -69,12 +69,6 @@ CountsMissing =
     → Missing (transitions (oneChannel n m setpoints readbacks) ks) (shortfallsOver n m setpoints readbacks ks 0x0c)
 
 -- ---- D4
-
--- a read at this offset answers a word with this bit set or not
-pub record ReadsBit (bit : ℕ) (o : OneChannel) (offset : ℕ) (set : Bool) : Type 0 where
-  pub word : ℕ
-  pub answers : response o (readRegister offset) ≡ value word
-  pub bit-is : bitAt word bit ≡ set
 
 -- from an opening, after any list of calls: D4 of 02 and of 04 is set exactly where there was a shortfall since opening, reset or the last read of that
 -- register, the count being at 255 or not

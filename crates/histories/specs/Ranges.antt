@@ -1,7 +1,7 @@
 -- Document 01, 'The bench and its memory' and 'A channel's life': the ranges of what a channel holds, which it keeps to over any list of calls. So no
 -- default past a list's end or below a range is ever used. Document 02, card 1: nor that of a tick on which a command frame and a setpoint would leave.
--- Card 2: the count of missing readbacks.
-use Prim.Native.Nat.{ℕ, _*_, _≤_, _<_}
+-- Card 2: the count of missing readbacks. Card 3: a place of each readback buffer is left for its end word.
+use Prim.Native.Nat.{ℕ, _-_, _*_, _≤_, _<_}
 use mathlib.Core.Path.{_≡_}
 use mathlib.Core.Bool.{Bool, true, false}
 use mathlib.Core.List.{List}
@@ -70,9 +70,10 @@ pub record RegistersInRange (r : Registers) : Type 0 where
   pub switches : length (r .switches) ≡ 8
   pub delays : length (r .delays) ≡ 40
 
+-- "A buffer of depth M takes M − 1 readbacks"
 pub record ReadbacksInRange (m : ℕ) (r : Readbacks) : Type 0 where
-  pub stored : r .stored ≤ m
-  pub retired : r .retired ≤ m
+  pub stored : r .stored ≤ m - 1
+  pub retired : r .retired ≤ m - 1
 
 -- "six pairs", of which FE counts those that came
 pub record CommandsInRange (f : CommandFrames) : Type 0 where

@@ -2,7 +2,7 @@
 -- last such send; else it is "unasked". If the buffer is full it is "lost", and counts among the six." `unsolicited` is "unasked".
 -- All of it is stated over what calls answered: what was sent and replied (`windowSince`), how many replies were kept (`keptSince`), and, of document
 -- 02, card 1, what is told of command frames (`commandsSince`).
-use Prim.Native.Nat.{ℕ, _+_, _*_, _≤_}
+use Prim.Native.Nat.{ℕ, _+_, _-_, _*_, _≤_}
 use mathlib.Core.Path.{_≡_}
 use mathlib.Core.Bool.{Bool, cond, not, _&&_, _||_}
 use mathlib.Core.List.{List}
@@ -11,7 +11,7 @@ use lib.Dec.{ltb}
 use Rattle.frame.specs.Frames.{read, fields, crcRight}
 use Rattle.registers.specs.Map.{secondActive, readbackPlace}
 use Rattle.sequencer.specs.declared.Sequencer.{Sequencer}
-use Rattle.readback.specs.Storing.{capacity, placeOf, storedWord}
+use Rattle.readback.specs.Storing.{placeOf, storedWord}
 use Rattle.command_frames.specs.declared.CommandFrames.{CommandFrames}
 use Rattle.command_frames.specs.Commanding.{takes, received}
 use Rattle.channel_core.specs.Answers.{kept, lost, unsolicited}
@@ -40,9 +40,10 @@ WindowHeld =
 abbrev pub dueByWindow : Window → Bool
 dueByWindow w = w .sent && ltb (w .replies) 6
 
--- the active readback buffer has space: fewer replies were kept since the last Group End, reset or opening than it takes
+-- the active readback buffer has space: fewer than M − 1 replies were kept since the last Group End, reset or opening. Document 02, card 3: "A buffer of
+-- depth M takes M − 1 readbacks and the next is lost."
 abbrev pub hasSpace : ℕ → Kept → Bool
-hasSpace m g = ltb (length (g .current)) (capacity m)
+hasSpace m g = ltb (length (g .current)) (m - 1)
 
 -- the readback words with one stored after the others of the active buffer
 abbrev pub storedAfter : OneChannel → Kept → ℕ → List ℕ

@@ -19,6 +19,12 @@ isCondition bit = eqb bit crcError || (eqb bit missingReadback || (leb (pauseBit
 abbrev pub isEnable : ℕ → Bool
 isEnable bit = not (eqb bit 3)
 
+-- a read at this offset answers a word with this bit set or not
+pub record ReadsBit (bit : ℕ) (o : OneChannel) (offset : ℕ) (set : Bool) : Type 0 where
+  pub word : ℕ
+  pub answers : response o (readRegister offset) ≡ value word
+  pub bit-is : bitAt word bit ≡ set
+
 -- a read at this offset answers a word, and no bit of it is set but those that the register has
 pub record ReadsOnly (has : ℕ → Bool) (o : OneChannel) (offset : ℕ) : Type 0 where
   pub word : ℕ

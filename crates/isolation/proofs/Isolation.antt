@@ -29,14 +29,14 @@ use Rattle.isolation.proofs.Items.{Holds, item}
 
 -- ---- From any good world
 
-good-step : (w : World) → Good w → (i : Item) → Fits w i → Good (step w i)
+pub good-step : (w : World) → Good w → (i : Item) → Fits w i → Good (step w i)
 good-step w g i f = go (either w i f)
   where
     go : ((refused (w .board) (i .call) (i .lent) ≡ true) ⊎ (i .lent ≡ given w (i .call))) → Good (step w i)
     go (inl e) = subst Good (sym (step-refused w i e)) g
     go (inr e) = subst Good (sym (step-given w i e)) (good-plain w g (i .call))
 
-along : (c : ℕ) → Number c → (xs : List Item) (w : World) → Good w → Allowed w xs → MatchesOneChannel c w xs (view c w)
+pub along : (c : ℕ) → Number c → (xs : List Item) (w : World) → Good w → Allowed w xs → MatchesOneChannel c w xs (view c w)
 along c h [] w g a = record { observed = refl; ends = refl }
 along c h (i ∷ is) w g a =
     let s : Holds c w i = item w g c h (i .lent) (i .call) (a .0) in

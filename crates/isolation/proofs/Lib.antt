@@ -14,3 +14,4 @@ pub mod Items
 pub mod Isolation
 pub mod Shown
 pub mod Defaults
+pub mod EndWords

@@ -1,29 +1,34 @@
 -- Document 01, 'What holds it to this': demand 3, "each channel behaves as it would alone". The claim, and what stands beside it.
 -- Proofs: Isolation and FedTheSame in proofs/Isolation.antt, IsolationShown, MissingCounted and NotVacuous in Shown, DefaultsUnused and
--- OneFrameATick in Defaults, the others in Refused and Others.
-use Prim.Native.Nat.{ℕ, _+_, _*_, _<_, _≤_}
+-- OneFrameATick in Defaults, EndWordFound, EndWordLasts and GroupRetires in
+-- EndWords, the others in Refused and Others.
+use Prim.Native.Nat.{ℕ, _+_, _-_, _*_, _<_, _≤_}
 use mathlib.Core.Path.{_≡_}
-use mathlib.Core.Bool.{true, false}
-use mathlib.Core.List.{List, [], _∷_}
-use lib.ListN.{length}
-use Rattle.status.specs.Bits.{bitAt}
+use mathlib.Core.Bool.{true, false, not}
+use mathlib.Core.List.{List, [], _∷_, _++_}
+use lib.ListN.{length, getD}
+use Rattle.status.specs.Bits.{bitAt, bitOf}
 use Rattle.sequencer.specs.declared.Transmission.the-variants as transmission
 use Rattle.command_frames.specs.Commanding.{isDue}
 use Rattle.channel_core.specs.Answers as ans
 use Rattle.channel_core.specs.Behaviour.{playedOf}
 use Rattle.channel.specs.Calls.{mainBit}
-use Rattle.channel.specs.OneChannel.{OneChannel, oneChannel, response, transitions, responses, bufferOne, bufferTwo}
+use Rattle.channel.specs.OneChannel.{OneChannel, ChannelCall, oneChannel, response, transitions, responses, bufferOne, bufferTwo}
 use Rattle.channel.specs.OneChannel as to
+use Rattle.histories.specs.History.{entry, history, endsGroup}
+use Rattle.histories.specs.Keeping.{keptOver}
 use Rattle.histories.specs.Ranges.{InRange}
 use Rattle.histories.specs.Missing.{shortfallsOver, missingCount}
+use Rattle.histories.specs.EndWords.{secondActiveOver, groupRetiredOver, StaysRetired}
 use Rattle.board_state.specs.declared.Board.{Board}
 use Rattle.board_state.specs.State.{channelAt}
 use Rattle.board_state.specs.Main.{mainStatus}
 use Rattle.board_state.specs.Parts.{own}
+use Rattle.board.specs.Answers.{one}
 use Rattle.board.specs.Calls.{openAnswer}
 use Rattle.board_registers.specs.Calls.{readAnswer}
 use Rattle.board.specs.Worlds.{World}
-use Rattle.isolation.specs.Calls.{Call, writeSetpoint, tick, Lent, words, buffers, Item, after, lentAfter, refused, ownBuffers, step, Fits, Allowed, worldAfter, opening}
+use Rattle.isolation.specs.Calls.{Call, writeRegister, writeSetpoint, query, tick, Lent, words, buffers, Item, answer, after, lentAfter, refused, ownBuffers, step, Fits, Allowed, worldAfter, opening}
 use Rattle.isolation.specs.Feeding.{names, feeds, fed, observes, view}
 
 -- one channel by itself, opened with the same depths and its own part of the words
@@ -107,7 +112,7 @@ FedTheSame =
     × (view c (worldAfter (opening n m s r) xs) ≡ view c (worldAfter (opening n m s' r') ys))
 
 -- the defaults of the total definitions are never used: from an opening, over any allowed list, each channel's indices, counts, countdowns and
--- arrays are in their ranges (`InRange`: index due below N, stored counts at most M, user 1 to 8, a running countdown at least 1, ..)
+-- arrays are in their ranges (`InRange`: index due below N, stored counts at most M − 1, user 1 to 8, a running countdown at least 1, ..)
 abbrev pub DefaultsUnused : Type 0
 DefaultsUnused =
     (n m : ℕ) (s r : List ℕ)
@@ -139,7 +144,56 @@ MissingCounted =
     → readAnswer (worldAfter (opening n m s r) xs .board) (0x800 * c + 0x0c)
     ≡ ans.value (missingCount (shortfallsOver n m (own s (n * 16) c) (own r (m * 2) c) (fed c xs) 0x0c))
 
--- there are such lists: a setpoint write to channel 5, which is lent any words at all and refused, then a tick, which is not
+-- document 02, card 3: the end word in the board's memory, which is "by channel, buffer, index". In one world: 0E of channel c reads which buffer is
+-- active; the twin of retired readbacks, lent the channel's buffers, answers `count`, which leaves a place in a buffer; and the word at that index of the
+-- other buffer is 02000000h
+pub record EndWordIn (c m : ℕ) (w : World) : Type 0 where
+  pub register : ℕ
+  pub read : readAnswer (w .board) (0x800 * c + 0x0e) ≡ ans.value register
+  pub count : ℕ
+  pub counted : answer (w .board) (query c to.retiredLength) (ownBuffers w c) ≡ one (ans.partLength count)
+  pub within : count < m
+  pub word : getD (w .readbacks) (((c - 1) * 2 + bitOf (not (bitAt register 8))) * m + count) 0 ≡ 0x2000000
+
+-- "Group End always writes the end word.": so from an opening, with any M that it allows, over any allowed list, where the calls fed to c tell that a
+-- group of c has retired
+abbrev pub EndWordFound : Type 0
+EndWordFound =
+    (n m : ℕ) (s r : List ℕ)
+    → openAnswer n m (length s) (length r) ≡ ans.done
+    → (c : ℕ) → 1 ≤ c → c ≤ 4
+    → (xs : List Item) → Allowed (opening n m s r) xs
+    → groupRetiredOver n m (own s (n * 16) c) (own r (m * 2) c) (fed c xs) ≡ true
+    → EndWordIn c m (worldAfter (opening n m s r) xs)
+
+-- and it stays until that buffer is active again: an allowed list of any calls, a call of which c is fed a Group End that takes place, and calls after
+-- which the buffer that it retired is not active again. The index is `count`, the number of replies that were kept for that buffer.
+abbrev pub EndWordLasts : Type 0
+EndWordLasts =
+    (n m : ℕ) (s r : List ℕ)
+    → openAnswer n m (length s) (length r) ≡ ans.done
+    → (c : ℕ) → 1 ≤ c → c ≤ 4
+    → (before : List Item) (groupEnd : Item) (later : List Item) → Allowed (opening n m s r) (before ++ (groupEnd ∷ later))
+    → let w = worldAfter (opening n m s r) before in
+    let second = secondActiveOver n m (own s (n * 16) c) (own r (m * 2) c) (fed c before) in
+    let count = length (keptOver n m (own s (n * 16) c) (own r (m * 2) c) (fed c before) .current) in
+    (k : ChannelCall) → feeds c groupEnd ≡ k ∷ [] → endsGroup (entry (view c w) k) ≡ true
+    → StaysRetired second (history (view c (step w groupEnd)) (fed c later))
+    → (count < m) × (getD (worldAfter (opening n m s r) (before ++ (groupEnd ∷ later)) .readbacks) (((c - 1) * 2 + bitOf second) * m + count) 0 ≡ 0x2000000)
+
+-- there are lists after which a group has retired: Commands with D2, lent the memory
+abbrev pub endingGroup : ℕ → List ℕ → Item
+endingGroup c r = record { call = writeRegister (0x800 * c + 0x08) 4; lent = words r }
+
+abbrev pub GroupRetires : Type 0
+GroupRetires =
+    (n m : ℕ) (s r : List ℕ)
+    → openAnswer n m (length s) (length r) ≡ ans.done
+    → (c : ℕ) → 1 ≤ c → c ≤ 4
+    → Allowed (opening n m s r) (endingGroup c r ∷ [])
+    × (groupRetiredOver n m (own s (n * 16) c) (own r (m * 2) c) (fed c (endingGroup c r ∷ [])) ≡ true)
+
+-- there are allowed lists: a setpoint write to channel 5, which is lent any words at all and refused, then a tick, which is not
 abbrev pub astray : List ℕ → Item
 astray foreign = record { call = writeSetpoint 5 1 1 0 0; lent = words foreign }
 

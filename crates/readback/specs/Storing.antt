@@ -1,4 +1,4 @@
--- Document 01, 'A channel's life': replies, the words stored for them, and the retired part.
+-- Document 01, 'A channel's life': replies, the words stored for them, and the retired part. Document 02, card 3: an end word in every retired buffer.
 -- Of the state, "both stored readback counts": `stored` is that of the active buffer, `retired` that of the inactive one.
 use Prim.Native.Nat.{ℕ, _+_, _-_, _*_, _%_}
 use mathlib.Core.Bool.{Bool, cond, not, _&&_}
@@ -15,9 +15,10 @@ use Rattle.readback.specs.declared.Disposition.the-variants as dispositi
 abbrev pub opened : Readbacks
 opened = record { stored = 0; retired = 0 }
 
--- how many readbacks a buffer takes: "Depth M (readbacks per buffer)"
+-- how many readbacks a buffer takes. Card 3: "The last place is now kept for" the end word; "A buffer of depth M takes M − 1 readbacks", "With M = 1 a
+-- buffer takes only the end word."
 abbrev pub capacity : ℕ → ℕ
-capacity m = m
+capacity m = m - 1
 
 -- "Kept word: D31 first send of the function's first word, D30 paused, D29 last, D28–D26 user less 1, D25 0, D24 CRC wrong, D23–D16 ID,
 -- D15–D0 data; D31–D26 describe the last send." `user` is the current user: it is that of the last send since idle, since a change of user idles.
@@ -34,7 +35,7 @@ placeOf second m index = cond second (m + index) index
 abbrev pub isDue : Bool → LastSend → Bool
 isDue idle l = not idle && (l .sent && ltb (l .replies) 6)
 
--- "else it is "unasked". If the buffer is full it is "lost""
+-- "else it is "unasked". If the buffer is full it is "lost""; card 3: "A buffer of depth M takes M − 1 readbacks and the next is lost."
 unfoldable pub dispositionOf : Bool → LastSend → ℕ → ℕ → Disposition
 dispositionOf idle l stored m =
     cond (isDue idle l) (cond (ltb stored (capacity m)) disposition.Kept disposition.Lost) disposition.Unsolicited
@@ -47,12 +48,13 @@ keptIn r m = record { stored = cond (ltb (r .stored) (capacity m)) (r .stored + 
 abbrev pub keptWords : Readbacks → List ℕ → Bool → ℕ → ℕ → List ℕ
 keptWords r s second m word = cond (ltb (r .stored) (capacity m)) (set s (placeOf second m (r .stored)) word) s
 
--- "02000000h goes after the stored readbacks if there is space (bench)"
+-- "02000000h goes after the stored readbacks ..", with space or without: card 3: "Group End always writes the end word." The readbacks leave a place for
+-- it in every state that an opening leads to (`InRange`, histories)
 abbrev pub endWord : ℕ
 endWord = 0x2000000
 
 abbrev pub endWords : Readbacks → List ℕ → Bool → ℕ → List ℕ
-endWords r s second m = cond (ltb (r .stored) m) (set s (placeOf second m (r .stored)) endWord) s
+endWords r s second m = set s (placeOf second m (r .stored)) endWord
 
 -- "readback buffers switch, the new one empty"
 abbrev pub groupEnded : Readbacks → Readbacks

@@ -3,7 +3,7 @@ use sequencer::LastSend;
 use status::weigh;
 ghost use mathlib.Core.Path.{_≡_};
 ghost use lib.ListN.{set, take};
-ghost use Rattle.readback.specs.Storing.{opened, storedWord, placeOf, dispositionOf, keptIn, keptWords, endWords, groupEnded, retiredPart};
+ghost use Rattle.readback.specs.Storing.{opened, storedWord, placeOf, capacity, dispositionOf, keptIn, keptWords, endWords, groupEnded, retiredPart};
 
 // What stands after the readbacks of a group.
 const END_WORD: u32 = 0x200_0000;
@@ -32,6 +32,16 @@ pub fn stored_word(last: LastSend, user: u8, wrong: bool, id: u8, data: u16) -> 
         + weigh(last.last, 0x2000_0000);
     let fields = registers::zero_based(user) as u32 % 8 * 0x400_0000 + weigh(wrong, 0x100_0000);
     flags + fields + id as u32 * 0x1_0000 + data as u32
+}
+
+// How many readbacks a buffer takes: its last place is the end word's.
+fn capacity(m: u32) -> u32
+    ensures { λ r. ⌜ r ≡ capacity m ⌝ }
+{
+    if m == 0 {
+        return 0;
+    }
+    m - 1
 }
 
 // Where a readback lies in the channel's own two buffers.
@@ -66,7 +76,7 @@ pub fn dispose(idle: bool, last: LastSend, stored: u32, m: u32) -> Disposition
     if 6 <= last.replies {
         return Disposition::Unsolicited;
     }
-    if stored < m {
+    if stored < capacity(m) {
         return Disposition::Kept;
     }
     Disposition::Lost
@@ -109,21 +119,18 @@ impl Readbacks {
     {
         let mut next = self;
         let stored = next.stored;
-        if stored < m {
+        if stored < capacity(m) {
             store(words, place(second, m, stored), word);
             next.stored = stored + 1;
         }
         next
     }
 
-    // The end word after the stored readbacks, if there is space.
+    // The end word after the stored readbacks.
     pub fn mark_end(self, words: &mut [u32], second: bool, m: u32)
         ensures { λ _. ⌜ now (words .exit) ≡ endWords self (now (words .entry)) second m ⌝ }
     {
-        let at = self.stored;
-        if at < m {
-            store(words, place(second, m, at), END_WORD);
-        }
+        store(words, place(second, m, self.stored), END_WORD);
     }
 
     // Group End's share: the active buffer retires, and the new one is empty.

@@ -190,7 +190,7 @@ impl Board {
     /// Before a reply goes to E4–FA.
     fn tally_kept_for_command(&mut self, c: usize, reply: u64, wrong: bool) {
         let ch = &self.ch[c];
-        let is_full = ch.stored[ch.active_readback()] as u32 >= self.m;
+        let is_full = self.is_full(c);
         let rows = [
             (true, Did::command_reply_kept),
             (ch.w[REPLIED] == 5, Did::command_reply_sixth),
@@ -198,7 +198,8 @@ impl Board {
             (reply >> 10 & 0xFF != 0, Did::command_reply_with_auxiliary),
             (!ch.armed, Did::command_reply_while_disarmed),
             (ch.function.is_some(), Did::command_reply_in_start_delay),
-            (is_full, Did::command_reply_with_full_buffer),
+            (is_full && self.m > 1, Did::command_reply_with_full_buffer),
+            (self.m == 1, Did::end_word_of_depth_1_command_reply),
         ];
         for (is, did) in rows {
             self.tally_if(is, did);

@@ -49,18 +49,11 @@ impl Board {
         self.watch_idling(c, Did::missing_idled_by_group_end, Did::missing_kept_over_group_end);
         self.end_function(c, Did::ee_by_group_end);
         self.command_at_group_end(c);
-        let (m, user, ch) = (self.m as usize, self.user as usize, &mut self.ch[c]);
-        // "02000000h goes after the stored readbacks if there is space"
-        let active = ch.active_readback();
-        if ch.stored[active] < m {
-            readbacks[(2 * c + active) * m + ch.stored[active]] = 0x0200_0000;
-            self.tally.add(Did::end_word);
-        } else {
-            self.tally.add(Did::end_word_without_space);
-        }
+        self.write_end_word(c, readbacks);
+        let (user, ch) = (self.user as usize, &mut self.ch[c]);
         // "readback buffers switch, the new one empty"
         ch.w[ACTIVE] ^= 1 << 8;
-        ch.stored[1 - active] = 0;
+        ch.stored[ch.active_readback()] = 0;
         // "users with Switch D0 set switch and the bits clear"
         for u in 0..8 {
             if ch.w[SWITCH + u] == 1 {
@@ -143,6 +136,7 @@ impl Board {
         if asked.group_end {
             self.tally.add(if asked.by_command { Did::group_end_by_command } else { Did::group_end_by_event });
             self.tally_command_due(c, &asked);
+            self.tally_group_end(c, &asked, readbacks);
             self.group_end(c, readbacks);
         }
         if asked.start {
@@ -229,6 +223,7 @@ impl Board {
         let at = self.word_at(c, user, self.ch[c].active_setpoint(user), index);
         let word = if is_next { self.next_word(c, at, setpoints)? } else { self.repeat(c, at, setpoints)? };
         self.close_window(c, Window::ClosedBySetpoint);
+        self.watch_send(c);
         let ch = &mut self.ch[c];
         let period = ch.period();
         let f = ch.function.as_mut()?;

@@ -71,7 +71,7 @@ struct Record {
 
 /// What the corpus reaches of it.
 impl Board {
-    fn tally_rows(&mut self, rows: &[(bool, Did)]) {
+    pub(super) fn tally_rows(&mut self, rows: &[(bool, Did)]) {
         for &(is, did) in rows {
             self.tally_if(is, did);
         }

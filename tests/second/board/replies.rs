@@ -59,7 +59,8 @@ impl Board {
     /// A reply that is asked for: kept, or lost. "If the buffer is full it is "lost", and counts
     /// among the six."
     fn store(&mut self, c: usize, low: u32, readbacks: &mut [u32]) -> Reply {
-        let (m, ch) = (self.m as usize, &mut self.ch[c]);
+        let (is_full, place) = (self.is_full(c), self.next_place(c));
+        let ch = &mut self.ch[c];
         let active = ch.active_readback();
         let f = ch.function.as_mut().unwrap();
         if f.fresh {
@@ -67,15 +68,16 @@ impl Board {
         }
         let sent = f.sent.as_mut().unwrap();
         sent.replies += 1;
-        if ch.stored[active] >= m {
-            self.tally.add(Did::lost);
+        // "D31–D26 describe the last send"
+        let (tag, replies) = (sent.tag, sent.replies);
+        if is_full {
+            self.tally_lost(c, replies);
             self.watch[c].lost += 1;
             return Reply::Lost;
         }
-        // "D31–D26 describe the last send"
-        let tag = sent.tag;
-        readbacks[(2 * c + active) * m + ch.stored[active]] = tag | low;
-        ch.stored[active] += 1;
+        self.tally_stored(c, readbacks[place]);
+        readbacks[place] = tag | low;
+        self.ch[c].stored[active] += 1;
         self.tally.add(Did::kept);
         for (bit, did) in [(31, Did::kept_first), (30, Did::kept_paused), (29, Did::kept_last)] {
             if tag >> bit & 1 == 1 {
@@ -92,11 +94,11 @@ impl Board {
             self.tally.add(Did::retired_refused_1);
             return Err(1);
         }
-        let ch = &self.ch[Board::channel(c)?];
-        let inactive = 1 - ch.active_readback();
-        let length = ch.stored[inactive];
-        self.tally.add(if length == 0 { Did::part_empty } else { Did::part_not_empty });
-        Ok((inactive == 1, length))
+        let c = Board::channel(c)?;
+        let is_second = self.ch[c].active_readback() == 0;
+        let length = self.retired_count(c);
+        self.tally_part(c, &(if is_second { second } else { first })[..length]);
+        Ok((is_second, length))
     }
 
     /// The retired count of a channel (0–3), as its own buffers would show it.

@@ -2,6 +2,7 @@
 
 use super::commands::{command, command_with_full_buffer};
 use super::dice::Dice;
+use super::end_word::{end_word, fill};
 use super::missing::missing;
 use super::story::{delay, load, reply, ticks, word, Taste, BASE};
 use super::world::{Op, World};
@@ -34,13 +35,13 @@ pub fn act(world: &mut World, d: &Dice, t: &Taste) {
     let c = d.of(&t.channels);
     let s = Scene { d, t, c, p: world.board().peek(c as usize - 1), user: world.board().user };
     let choice = if !s.p.armed {
-        d.weighed(&[50, 0, 8, 6, 4, 0, 8, 6, 10, 12, 16, 3])
+        d.weighed(&[50, 0, 8, 6, 4, 0, 8, 6, 10, 12, 16, 3, 2])
     } else if s.p.idle {
-        d.weighed(&[2, 50, 8, 4, 4, 0, 10, 4, 12, 8, 25, 6])
+        d.weighed(&[2, 50, 8, 4, 4, 0, 10, 4, 12, 8, 25, 6, 4])
     } else if s.p.pause > 0 {
-        d.weighed(&[1, 4, 24, 18, 4, 35, 3, 2, 5, 4, 6, 5])
+        d.weighed(&[1, 4, 24, 18, 4, 35, 3, 2, 5, 4, 6, 5, 3])
     } else {
-        d.weighed(&[1, 4, 36, 25, 9, 2, 5, 3, 8, 4, 7, 5])
+        d.weighed(&[1, 4, 36, 25, 9, 2, 5, 3, 8, 4, 7, 5, 3])
     };
     match choice {
         0 => world.put(if d.chance(93) { Op::Arm(c) } else { Op::Disarm(c) }, d),
@@ -54,7 +55,8 @@ pub fn act(world: &mut World, d: &Dice, t: &Taste) {
         8 => statuses(world, &s),
         9 => any_register(world, &s),
         10 => command(world, &s),
-        _ => missing(world, &s),
+        11 => missing(world, &s),
+        _ => end_word(world, &s),
     }
 }
 
@@ -88,29 +90,6 @@ fn replies(world: &mut World, s: &Scene) {
     }
 }
 
-/// Replies until the active readback buffer is full, and one or two more.
-fn fill(world: &mut World, s: &Scene) {
-    for _ in 0..40 {
-        let p = s.now(world);
-        if p.idle || p.wait > 400 || world.records() > 6_000 || p.stored as u32 >= world.board().m {
-            break;
-        }
-        if p.replies.is_none_or(|r| r >= 6) {
-            world.put(Op::Ticks((p.wait as u32).max(1)), s.d);
-        }
-        for _ in 0..6 {
-            // one place left: the end word's
-            if s.now(world).stored as u32 + 1 == world.board().m && s.d.chance(40) {
-                return world.put(Op::Write(s.at() + 8, 4), s.d);
-            }
-            world.put(Op::Reply(s.c, reply(s.d)), s.d);
-        }
-    }
-    for _ in 0..s.d.below(3) {
-        world.put(Op::Reply(s.c, reply(s.d)), s.d);
-    }
-}
-
 fn group_end(world: &mut World, s: &Scene) {
     let d = s.d;
     let op = if d.chance(60) { event_for(world, s, 0x2A) } else { Op::Write(s.at() + 8, d.of(&[4, 4, 5, 6, 7])) };
@@ -127,7 +106,7 @@ fn group_end(world: &mut World, s: &Scene) {
     }
 }
 
-fn retired(world: &mut World, s: &Scene) {
+pub fn retired(world: &mut World, s: &Scene) {
     let c = if s.d.chance(90) { s.c } else { s.d.of(&[0, 1, 2, 3, 4, 5, 255]) };
     let lent = if s.d.chance(55) { 0 } else { s.d.below(9) as u8 };
     world.put(Op::Retired { c, length: true, lent }, s.d);

@@ -22,7 +22,7 @@ fn field(s: &Scene) -> Op {
     }
 }
 
-fn group_end(world: &World, s: &Scene) -> Op {
+pub fn group_end(world: &World, s: &Scene) -> Op {
     if s.d.chance(50) {
         event_for(world, s, 0x2A)
     } else {

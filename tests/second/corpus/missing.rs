@@ -33,7 +33,7 @@ fn frame_id(s: &Scene) -> Op {
 }
 
 /// The channel's next send, from a Start if it is idle; none is made if it is far off.
-fn send(world: &mut World, s: &Scene) -> bool {
+pub fn send(world: &mut World, s: &Scene) -> bool {
     if !s.now(world).armed {
         world.put(Op::Arm(s.c), s.d);
     }

@@ -8,7 +8,7 @@ use crate::frame::frame;
 
 pub const BASE: u32 = 0x800;
 pub const DEPTHS_N: &[u32] = &[1, 1, 2, 2, 3, 4, 5, 8, 16, 31, 32];
-pub const DEPTHS_M: &[u32] = &[1, 1, 2, 3, 5, 6, 7, 12, 13, 64];
+pub const DEPTHS_M: &[u32] = &[1, 2, 2, 3, 5, 6, 7, 12, 13, 64];
 
 /// What sets one story apart from another.
 pub struct Taste {

@@ -3,6 +3,7 @@ use mathlib.Core.Path.{_≡_}
 use mathlib.Core.Bool.{true}
 use Rattle.readback.specs.Storing.{isDue, dispositionOf}
 use borrow.Author.Tests.{lt-ltb, le-ltb, not-true, not-false}
+use borrow.Author.Needs.{needs}
 use Rattle.readback.proofs.dispose.Statement.{statement}
 use Rattle.readback.proofs.dispose.Tie as tie
 
@@ -34,13 +35,20 @@ returns-3 c =
       le-ltb _ _ (c .if3 .taken),
     )
 
+capacity-requires : tie.Need-capacity-requires
+capacity-requires c κs = search needs
+
 returns-4 : tie.Need-returns-4
 unfolding dispositionOf
-returns-4 c = simp (due (c .before), lt-ltb _ _ (c .if4 .taken))
+returns-4 c =
+    let s = c .before in
+    simp (due (s .before), lt-ltb _ _ (rw (s .capacity .ensures) at (c .if4 .taken)))
 
 returns-5 : tie.Need-returns-5
 unfolding dispositionOf
-returns-5 c = simp (due (c .before), le-ltb _ _ (c .if4 .left))
+returns-5 c =
+    let s = c .before in
+    simp (due (s .before), le-ltb _ _ (rw (s .capacity .ensures) at (c .if4 .left)))
 
 pub dispose-spec : {M : Type 1} → statement M
-dispose-spec = tie.close (tie.spec returns returns-2 returns-3 returns-4 returns-5)
+dispose-spec = tie.close (tie.spec returns returns-2 returns-3 capacity-requires returns-4 returns-5)

@@ -4,6 +4,9 @@ use borrow.Author.Needs.{needs}
 use Rattle.readback.proofs.Readbacks.keep.Statement.{statement}
 use Rattle.readback.proofs.Readbacks.keep.Tie as tie
 
+capacity-requires : tie.Need-capacity-requires
+capacity-requires c κs = search needs
+
 place-requires : tie.Need-place-requires
 place-requires c κs = search needs
 
@@ -19,11 +22,12 @@ same-length c = search needs
 returns : tie.Need-returns
 returns c =
     let s = c .before .before in
-    let space = lt-ltb _ _ (s .before .before .before .if1 .taken) in
+    let test = s .before .before .before in
+    let space = lt-ltb _ _ (rw (test .before .capacity .ensures) at (test .if1 .taken)) in
     (simp (space), simp (s .store .ensures, s .before .place .ensures, space))
 
 returns-2 : tie.Need-returns-2
-returns-2 c = let full = le-ltb _ _ (c .if1 .left) in (simp (full), simp (full))
+returns-2 c = let full = le-ltb _ _ (rw (c .before .capacity .ensures) at (c .if1 .left)) in (simp (full), simp (full))
 
 pub keep-spec : {M : Type 1} → statement M
-keep-spec = tie.close (tie.spec place-requires store-requires add-next same-length returns returns-2)
+keep-spec = tie.close (tie.spec capacity-requires place-requires store-requires add-next same-length returns returns-2)

@@ -1,0 +1,209 @@
+-- The end word stands in the board's memory: each channel is as it would be alone, and alone it finds it there. Assumes nothing.
+use Prim.Native.Nat.{ℕ, _+_, _-_, _*_, _<_}
+use mathlib.Core.Path.{_≡_, refl, sym, ap, ap₂, subst, _∙_}
+use mathlib.Core.Logic.{inr}
+use mathlib.Core.Bool.{Bool, true, false, not}
+use mathlib.Core.List.{List, [], _∷_, _++_}
+use native.Mathlib.Nat.{add-mul, mul-assoc, mul-comm}
+use native.Mathlib.Omega.{arith}
+use lib.ListN.{length, getD, take, drop, length-take, length-drop}
+use lib.Dec.{eqb}
+use lib.Seq.{getD-take, getD-drop}
+use borrow.Author.Tests.{eq-eqb}
+use Rattle.address_map.proofs.Laws.{channel-named}
+use Rattle.register_map.specs.AccessRule.{channelAccess}
+use Rattle.status.specs.Bits.{bitOf}
+use Rattle.readback.specs.Storing.{placeOf}
+use Rattle.channel_core.specs.State as core
+use Rattle.channel_core.specs.Answers as ans
+use Rattle.channel_registers.specs.Calls.{registerRefusal}
+use Rattle.channel.specs.OneChannel.{OneChannel, ChannelCall, refusalOf, transition, response, transitions}
+use Rattle.channel.specs.OneChannel as to
+use Rattle.histories.specs.History.{entry, history, endsGroup}
+use Rattle.histories.specs.Keeping.{keptOver}
+use Rattle.histories.specs.EndWords.{secondActiveOver, groupRetiredSince, groupRetiredOver, StaysRetired}
+use Rattle.histories.proofs.Depths.{depths-step, depths-kept}
+use Rattle.histories.proofs.EndWords.{end-word-stands, end-word-stays}
+use Rattle.board_state.specs.Parts.{own}
+use Rattle.board.specs.Answers.{one}
+use Rattle.board.specs.Calls.{openAnswer}
+use Rattle.board.specs.Worlds.{World}
+use Rattle.isolation.specs.Calls.{query, first, second, Item, answer, ownBuffers, step, Allowed, worldAfter, opening}
+use Rattle.isolation.specs.Feeding.{feeds, fed, view}
+use Rattle.isolation.specs.Isolation.{oneChannelAt, EndWordFound, EndWordLasts, endingGroup, GroupRetires}
+use Rattle.isolation.proofs.Parts.{Number, own-length}
+use Rattle.isolation.proofs.Worlds.{Good}
+use Rattle.isolation.proofs.Observing.{observe-query}
+use Rattle.isolation.proofs.Isolation.{isolation, along, good-step, good-opening, open-fits}
+use Rattle.isolation.proofs.Shown.{isolation-shown}
+
+-- ---- A list cut in two
+
+world-append : (w : World) (xs ys : List Item) → worldAfter w (xs ++ ys) ≡ worldAfter (worldAfter w xs) ys
+world-append w [] ys = refl
+world-append w (i ∷ xs) ys = world-append (step w i) xs ys
+
+allowed-append : (w : World) (xs ys : List Item) → Allowed w (xs ++ ys) → Allowed w xs × Allowed (worldAfter w xs) ys
+allowed-append w [] ys a = (tt, a)
+allowed-append w (i ∷ xs) ys a = let b = allowed-append (step w i) xs ys (a .1) in ((a .0, b .0), b .1)
+
+good-after : (w : World) (xs : List Item) → Good w → Allowed w xs → Good (worldAfter w xs)
+good-after w [] g a = g
+good-after w (i ∷ xs) g a = good-after (step w i) xs (good-step w g i (a .0)) (a .1)
+
+-- ---- A word of a channel's readback buffer, in the memory
+
+four : (m : ℕ) → m * 8 ≡ 4 * (m * 2)
+four m = omega arith
+
+place-start : (p m : ℕ) (b : Bool) (i : ℕ) → p * (m * 2) + placeOf b m i ≡ (p * 2 + bitOf b) * m + i
+place-start p m b i = go b (add-mul (p * 2) (bitOf b) m) (mul-assoc p 2 m ∙ ap (λ (x : ℕ). p * x) (mul-comm 2 m))
+  where
+    go : (b : Bool) → (p * 2 + bitOf b) * m ≡ p * 2 * m + bitOf b * m → p * 2 * m ≡ p * (m * 2)
+        → p * (m * 2) + placeOf b m i ≡ (p * 2 + bitOf b) * m + i
+    go true d e = omega (arith, d, e)
+    go false d e = omega (arith, d, e)
+
+place-within : (m : ℕ) (b : Bool) (i : ℕ) → i < m → placeOf b m i < m * 2
+place-within m true i h = omega arith
+place-within m false i h = omega arith
+
+own-word : (s : List ℕ) (c m : ℕ) (b : Bool) (i : ℕ) → i < m
+    → getD (own s (m * 2) c) (placeOf b m i) 0 ≡ getD s (((c - 1) * 2 + bitOf b) * m + i) 0
+own-word s c m b i within =
+    getD-take (m * 2) (drop ((c - 1) * (m * 2)) s) (placeOf b m i) 0 (place-within m b i within)
+    ∙ getD-drop ((c - 1) * (m * 2)) s (placeOf b m i) 0
+    ∙ ap (λ (k : ℕ). getD s k 0) (place-start (c - 1) m b i)
+
+halves : (k : ℕ) (l : List ℕ) → length l ≡ k * 2 → (length (take k l) ≡ k) × (length (take k (drop k l)) ≡ k)
+halves k l e = (simp length-take (omega arith), simp (length-take, length-drop) (omega arith))
+
+-- each of the channel's buffers has M words
+buffers-long : (w : World) (c : ℕ) → Number c → Good w
+    → (length (first (ownBuffers w c)) ≡ w .board .m) × (length (second (ownBuffers w c)) ≡ w .board .m)
+buffers-long w c h g =
+    halves (w .board .m) (own (w .readbacks) (w .board .m * 2) c) (own-length (w .readbacks) (w .board .m * 2) (g .reads ∙ four (w .board .m)) c h)
+
+-- what the twin of retired readbacks answers, lent them
+counted-alone : (w : World) (c m : ℕ) → Number c → Good w → w .board .m ≡ m
+    → answer (w .board) (query c to.retiredLength) (ownBuffers w c) ≡ one (response (view c w) (to.query to.retiredLength m m))
+unfolding answer
+counted-alone w c m h g d =
+    let l = buffers-long w c h g in
+    ap one
+    (observe-query w c h to.retiredLength (ownBuffers w c) (inr refl)
+    ∙ ap₂ (λ (x y : ℕ). response (view c w) (to.query to.retiredLength x y)) (l .0 ∙ d) (l .1 ∙ d))
+
+-- a channel's word in the memory, by the channel alone
+word-alone : (w : World) (o : OneChannel) (c m : ℕ) (b : Bool) (i : ℕ) → view c w ≡ o → o .m ≡ m → i < m
+    → getD (w .readbacks) (((c - 1) * 2 + bitOf b) * m + i) 0 ≡ getD (o .readbacks) (placeOf b m i) 0
+word-alone w o c m b i e d within =
+    let depth = ap (λ (x : OneChannel). x .m) e ∙ d in
+    sym (own-word (w .readbacks) c m b i within)
+    ∙ ap (λ (x : ℕ). getD (own (w .readbacks) (x * 2) c) (placeOf b m i) 0) (sym depth)
+    ∙ ap (λ (x : OneChannel). getD (x .readbacks) (placeOf b m i) 0) e
+
+-- ---- Behind the retired part
+
+pub end-word-found : EndWordFound
+end-word-found n m s r opens c low high xs a retired =
+    let h : Number c = record { low = low; high = high } in
+    let f = open-fits n m s r opens in
+    let w = worldAfter (opening n m s r) xs in
+    let start = oneChannelAt c n m s r in
+    let o = transitions start (fed c xs) in
+    let e : view c w ≡ o = isolation n m s r opens c low high xs a .ends in
+    let d = depths-kept start (fed c xs) .1 in
+    let q = end-word-stands n m (own s (n * 16) c) (own r (m * 2) c) (f .1) (own-length r (m * 2) (f .3 ∙ four m) c h) (fed c xs) retired in
+    record {
+      register = q .active .word;
+      read = isolation-shown n m s r opens c low high xs a .registers 0x0e (omega arith) ∙ q .active .answers;
+      count = q .count;
+      counted =
+          counted-alone w c m h (good-after (opening n m s r) xs (good-opening n m s r opens) a) (ap (λ (x : OneChannel). x .m) e ∙ d)
+          ∙ ap one (ap (λ (x : OneChannel). response x (to.query to.retiredLength m m)) e ∙ q .counted);
+      within = q .within;
+      word =
+          ap (λ (b : Bool). getD (w .readbacks) (((c - 1) * 2 + bitOf (not b)) * m + q .count) 0) (q .active .bit-is)
+          ∙ word-alone w o c m (not (q .second)) (q .count) e d (q .within) ∙ q .word;
+    }
+
+-- ---- A Group End, and what comes after it
+
+module _
+    (n m : ℕ) (s r : List ℕ) (opens : openAnswer n m (length s) (length r) ≡ ans.done) (c : ℕ) (h : Number c)
+    (before : List Item) (groupEnd : Item) (later : List Item) (a : Allowed (opening n m s r) (before ++ (groupEnd ∷ later)))
+    (k : ChannelCall) (fed-end : feeds c groupEnd ≡ k ∷ [])
+  where
+    abbrev start : OneChannel
+    start = oneChannelAt c n m s r
+
+    abbrev o : OneChannel
+    o = transitions start (fed c before)
+
+    abbrev w : World
+    w = worldAfter (opening n m s r) before
+
+    cut : Allowed (opening n m s r) before × Allowed w (groupEnd ∷ later)
+    cut = allowed-append (opening n m s r) before (groupEnd ∷ later) a
+
+    good : Good w
+    good = good-after (opening n m s r) before (good-opening n m s r opens) (cut .0)
+
+    -- channel c before the Group End, after it, and at the end of the list
+    view-before : view c w ≡ o
+    view-before = isolation n m s r opens c (h .low) (h .high) before (cut .0) .ends
+
+    view-ended : view c (step w groupEnd) ≡ transition o k
+    view-ended =
+        along c h (groupEnd ∷ []) w good (cut .1 .0, tt) .ends
+        ∙ ap (λ (ks : List ChannelCall). transitions (view c w) (ks ++ [])) fed-end
+        ∙ ap (λ (x : OneChannel). transition x k) view-before
+
+    view-later : view c (worldAfter (opening n m s r) (before ++ (groupEnd ∷ later))) ≡ transitions (transition o k) (fed c later)
+    view-later =
+        ap (view c) (world-append (opening n m s r) before (groupEnd ∷ later))
+        ∙ along c h later (step w groupEnd) (good-step w good groupEnd (cut .1 .0)) (cut .1 .1) .ends
+        ∙ ap (λ (x : OneChannel). transitions x (fed c later)) view-ended
+
+    -- the buffer that retires, and the readbacks in it
+    abbrev inSecond : Bool
+    inSecond = secondActiveOver n m (own s (n * 16) c) (own r (m * 2) c) (fed c before)
+
+    abbrev count : ℕ
+    count = length (keptOver n m (own s (n * 16) c) (own r (m * 2) c) (fed c before) .current)
+
+    lasts : endsGroup (entry (view c w) k) ≡ true → StaysRetired inSecond (history (view c (step w groupEnd)) (fed c later))
+        → (count < m)
+        × (getD (worldAfter (opening n m s r) (before ++ (groupEnd ∷ later)) .readbacks) (((c - 1) * 2 + bitOf inSecond) * m + count) 0 ≡ 0x2000000)
+    lasts ends retired =
+        let f = open-fits n m s r opens in
+        let d = depths-kept (transition o k) (fed c later) .1 ∙ depths-step o k .1 ∙ depths-kept start (fed c before) .1 in
+        let e =
+        end-word-stays n m (own s (n * 16) c) (own r (m * 2) c) (f .1) (own-length r (m * 2) (f .3 ∙ four m) c h) (fed c before) k (fed c later)
+        (subst (λ (x : OneChannel). endsGroup (entry x k) ≡ true) view-before ends)
+        (subst (λ (x : OneChannel). StaysRetired inSecond (history x (fed c later))) view-ended retired) in
+        let v = worldAfter (opening n m s r) (before ++ (groupEnd ∷ later)) in
+        (e .0, word-alone v (transitions (transition o k) (fed c later)) c m inSecond count view-later d (e .0) ∙ e .1)
+
+pub end-word-lasts : EndWordLasts
+end-word-lasts n m s r opens c low high before groupEnd later a k fed-end ends retired =
+    lasts n m s r opens c (record { low = low; high = high }) before groupEnd later a k fed-end ends retired
+
+-- ---- There are such lists
+
+module _ (n m : ℕ) (s r : List ℕ) (opens : openAnswer n m (length s) (length r) ≡ ans.done) (c : ℕ) (h : Number c) where
+  abbrev call : ChannelCall
+  call = to.writeRegister (length r) 0x08 4
+
+  fed-call : fed c (endingGroup c r ∷ []) ≡ call ∷ []
+  fed-call = rw (channel-named c 0x08 (h .low) (h .high) (omega arith), eq-eqb c c refl)
+
+  retires : groupRetiredOver n m (own s (n * 16) c) (own r (m * 2) c) (call ∷ []) ≡ true
+  unfolding groupRetiredSince response refusalOf registerRefusal channelAccess to.answer core.opened
+  retires = let fits : eqb (length r) (m * 8) ≡ true = eq-eqb (length r) (m * 8) (open-fits n m s r opens .3) in rw fits
+
+pub group-retires : GroupRetires
+group-retires n m s r opens c low high =
+    let h : Number c = record { low = low; high = high } in
+    ((inr refl, tt), subst (λ (ks : List ChannelCall). groupRetiredOver n m (own s (n * 16) c) (own r (m * 2) c) ks ≡ true) (sym (fed-call n m s r opens c h)) (retires n m s r opens c h))
