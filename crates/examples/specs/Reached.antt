@@ -1,5 +1,5 @@
--- Document 01, 'Marked * and unmarked examples': the channels that the rows of Starred.antt speak of exist. Opened with depths 2 and 1 and zeroed words,
--- and led there by calls.
+-- Document 01, 'Marked * and unmarked examples': the channels that the rows of Starred.antt speak of exist. Opened with zeroed words, N 2 and M 1
+-- (rows of cards have other M, `ledAt`), and led there by calls.
 use Prim.Native.Nat.{ℕ, _*_}
 use mathlib.Core.Path.{_≡_}
 use mathlib.Core.Bool.{true}

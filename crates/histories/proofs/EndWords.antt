@@ -13,18 +13,21 @@ use Rattle.status.specs.Bits.{wordOfBits}
 use Rattle.status.proofs.Laws.{word-bit}
 use Rattle.register_map.specs.AccessRule.{channelAccess}
 use Rattle.registers.specs.Map.{readbackPlace, loaded}
+use Rattle.readback.specs.declared.Readbacks.{Readbacks}
 use Rattle.readback.specs.Storing.{placeOf}
 use Rattle.readback.proofs.Laws.{end-after-stored}
 use Rattle.command_frames.specs.declared.CommandFrames.{CommandFrames}
 use Rattle.channel_core.specs.State as state
-use Rattle.channel_core.specs.Answers.{value}
+use Rattle.channel_core.specs.Answers.{partLength}
+use Rattle.channel_core.specs.Behaviour.{groupEnded}
 use Rattle.channel_registers.specs.Calls.{registerRefusal, readValue}
-use Rattle.channel.specs.OneChannel.{ChannelCall, OneChannel, oneChannel, refusalOf, answer, transition, response, transitions, readRegister}
+use Rattle.channel.specs.OneChannel.{ChannelCall, OneChannel, oneChannel, refusalOf, answer, transition, response, transitions}
 use Rattle.channel.proofs.Cases.{clash}
 use Rattle.histories.specs.History.{entry, history, Told, told, endsGroup, resets}
 use Rattle.histories.specs.Keeping.{Kept, nothingKept, switched, keptWith, storedBy, keptAfter, keptSince, keptOver}
+use Rattle.histories.specs.Statuses.{ReadsBit}
 use Rattle.histories.specs.Ranges.{ChannelInRange}
-use Rattle.histories.specs.EndWords.{secondActiveAfter, secondActiveSince, secondActiveOver, ActiveTold, laidBy, withLaid, WordsTold, InactiveUnchanged, GroupEndAccepted, groupRetiredAfter, groupRetiredSince, EndWordStands, StaysRetired, EndWordStays}
+use Rattle.histories.specs.EndWords.{secondActiveAfter, secondActiveSince, secondActiveOver, ActiveTold, wordWrittenBy, withWritten, WordsTold, InactiveUnchanged, GroupEndAccepted, groupRetiredAfter, groupRetiredSince, EndWordStands, StaysRetired, EndWordStays}
 use Rattle.histories.proofs.Depths.{depths-step, depths-kept}
 use Rattle.histories.proofs.Writes.{nextPlace, words-step}
 use Rattle.histories.proofs.Parts.{opened-range}
@@ -33,7 +36,7 @@ use Rattle.histories.proofs.Ended.{ended-step}
 use Rattle.histories.proofs.Active.{activeIn, same-active, group-active, active-step}
 use Rattle.histories.proofs.Commands.{toldFrom, told-next, commands-told}
 use Rattle.histories.proofs.Holding.{HoldsIn, holds-opened}
-use Rattle.histories.proofs.Keeping.{holds-step, holds-over, words-long, retires-kept}
+use Rattle.histories.proofs.Keeping.{holds-step, holds-over, words-long, retires, retires-kept}
 
 -- ---- Which buffer is active
 
@@ -50,18 +53,17 @@ active-over : (n m : ℕ) (setpoints readbacks : List ℕ) (ks : List ChannelCal
 unfolding state.opened
 active-over n m setpoints readbacks ks = active-from (oneChannel n m setpoints readbacks) ks (opened-range m)
 
-reads-active : (o : OneChannel) → response o (readRegister 0x0e) ≡ value (wordOfBits (o .channel .registers .active))
+reads-active : (o : OneChannel) {second : Bool} → activeIn (o .channel) ≡ second → ReadsBit 8 o 0x0e second
 unfolding channelAccess response refusalOf answer readValue loaded
-reads-active o = refl
-
-pub active-told : ActiveTold
-active-told n m setpoints readbacks ks =
-    let o = transitions (oneChannel n m setpoints readbacks) ks in
+reads-active o e =
     record {
       word = wordOfBits (o .channel .registers .active);
-      answers = reads-active o;
-      bit-is = word-bit (o .channel .registers .active) readbackPlace ∙ active-over n m setpoints readbacks ks;
+      answers = refl;
+      bit-is = word-bit (o .channel .registers .active) readbackPlace ∙ e;
     }
+
+pub active-told : ActiveTold
+active-told n m setpoints readbacks ks = reads-active (transitions (oneChannel n m setpoints readbacks) ks) (active-over n m setpoints readbacks ks)
 
 -- ---- What a call writes
 
@@ -70,7 +72,7 @@ words-told n m setpoints readbacks ks k =
     let start = oneChannel n m setpoints readbacks in
     let o = transitions start ks in
     let by : Bool → ℕ → ℕ → CommandFrames → List ℕ =
-    λ second depth count f. withLaid (o .readbacks) (placeOf second depth count) (laidBy (record { entry = entry o k; commands = f })) in
+    λ second depth count f. withWritten (o .readbacks) (placeOf second depth count) (wordWrittenBy (record { entry = entry o k; commands = f })) in
     words-step o k
     ∙ ap (λ (b : Bool). by b (o .m) (o .channel .readbacks .stored) (o .channel .commands)) (active-over n m setpoints readbacks ks)
     ∙ ap (λ (x : ℕ). by (secondActiveOver n m setpoints readbacks ks) x (o .channel .readbacks .stored) (o .channel .commands)) (depths-kept start ks .1)
@@ -82,9 +84,9 @@ other-place : (second : Bool) (m i k : ℕ) → i < m → k < m → placeOf seco
 other-place true m i k a b e = absurd (omega arith)
 other-place false m i k a b e = absurd (omega arith)
 
-laid-other : (s words : List ℕ) (place at : ℕ) → (at ≡ place → ⊥) → getD (withLaid s place words) at 0 ≡ getD s at 0
-laid-other s [] place at ne = refl
-laid-other s (word ∷ words) place at ne = getD-set-other s place at word 0 ne
+written-other : (s words : List ℕ) (place at : ℕ) → (at ≡ place → ⊥) → getD (withWritten s place words) at 0 ≡ getD s at 0
+written-other s [] place at ne = refl
+written-other s (word ∷ words) place at ne = getD-set-other s place at word 0 ne
 
 module _ (m : ℕ) (deep : 1 ≤ m) where
   few-stored : (o : OneChannel) → o .m ≡ m → ChannelInRange (o .m) (o .channel) → o .channel .readbacks .stored < m
@@ -95,10 +97,10 @@ module _ (m : ℕ) (deep : 1 ≤ m) where
       → getD (transition o k .readbacks) (placeOf second m index) 0 ≡ getD (o .readbacks) (placeOf second m index) 0
   inactive-step o k second index d r a within =
       let stored = o .channel .readbacks .stored in
-      let words = laidBy (record { entry = entry o k; commands = o .channel .commands }) in
+      let words = wordWrittenBy (record { entry = entry o k; commands = o .channel .commands }) in
       let same = ap (λ (b : Bool). placeOf b (o .m) stored) a ∙ ap (λ (x : ℕ). placeOf (not second) x stored) d in
       ap (λ (s : List ℕ). getD s (placeOf second m index) 0) (words-step o k)
-      ∙ laid-other (o .readbacks) words (nextPlace (o .channel) (o .m)) (placeOf second m index)
+      ∙ written-other (o .readbacks) words (nextPlace (o .channel) (o .m)) (placeOf second m index)
       (λ e. other-place second m index stored within (few-stored o d r) (e ∙ same))
 
 pub inactive-unchanged : InactiveUnchanged
@@ -122,7 +124,7 @@ module _ (m : ℕ) (deep : 1 ≤ m) (o : OneChannel) (k : ChannelCall) (d : o .m
         let t : Told = record { entry = entry o k; commands = o .channel .commands } in
         ap (λ (x : ℕ). getD (transition o k .readbacks) (placeOf (activeIn (o .channel)) x (o .channel .readbacks .stored)) 0) (sym d)
         ∙ ap (λ (s : List ℕ). getD s place 0)
-        (words-step o k ∙ ap (λ (b : Bool). withLaid (o .readbacks) place (cond b (0x2000000 ∷ []) (storedBy t))) ends)
+        (words-step o k ∙ ap (λ (b : Bool). withWritten (o .readbacks) place (cond b (0x2000000 ∷ []) (storedBy t))) ends)
         ∙ end-after-stored (o .channel .readbacks) (o .readbacks) (activeIn (o .channel)) (o .m) (omega (arith, d, deep)) (omega (arith, d, long))
         (r .readbacks .stored)
 
@@ -183,13 +185,12 @@ end-word-stands n m setpoints readbacks deep long ks retired =
     let r = channel-from start ks (opened-range m) in
     let behind = behind-from m deep start ks nothingKept false refl long ordered-opened (opened-range m) (holds-opened m readbacks) (λ e. clash e) retired in
     record {
-      second = secondActiveOver n m setpoints readbacks ks;
-      active = active-told n m setpoints readbacks ks;
+      second = not (activeIn (o .channel));
+      active = reads-active o (sym (Bool·not-not (activeIn (o .channel))));
       count = length (g .retired);
       counted = retires-kept n m setpoints readbacks long ks .1;
       within = omega (arith, deep, depths-kept start ks .1, r .readbacks .retired, sym (holds-over n m setpoints readbacks ks .retired));
-      word =
-          ap (λ (b : Bool). getD (o .readbacks) (placeOf (not b) m (length (g .retired))) 0) (sym (active-over n m setpoints readbacks ks)) ∙ behind;
+      word = behind;
     }
 
 -- ---- Until that buffer is active again
@@ -203,6 +204,11 @@ retired-stays m deep second index within o (k ∷ ks) d r a s =
     (active-step o k (r .registers) ∙ ap (λ (b : Bool). secondActiveAfter b (entry o k)) a ∙ s .0) (s .1)
     ∙ inactive-step m deep o k second index d r a within
 
+retired-count : (o x : OneChannel) → x .channel .readbacks ≡ groupEnded (o .channel) .readbacks
+    → x .channel .readbacks .retired ≡ o .channel .readbacks .stored
+unfolding groupEnded
+retired-count o x e = ap (λ (r : Readbacks). r .retired) e
+
 pub end-word-stays : EndWordStays
 end-word-stays n m setpoints readbacks deep long before groupEnd later ends retired =
     let start = oneChannel n m setpoints readbacks in
@@ -211,11 +217,24 @@ end-word-stays n m setpoints readbacks deep long before groupEnd later ends reti
     let d = depths-kept start before .1 in
     let r = channel-from start before (opened-range m) in
     let a = active-over n m setpoints readbacks before in
-    let stored = holds-over n m setpoints readbacks before .stored in
-    let few : length (keptOver n m setpoints readbacks before .current) < m = omega (arith, sym stored, few-stored m deep o d r) in
-    let switched = same-active (ended-step o groupEnd ends .leaves) ∙ group-active (o .channel) (r .registers) ∙ ap not a in (
-      few,
-      retired-stays m deep second _ few (transition o groupEnd) later (depths-step o groupEnd .1 ∙ d) (channel-step o groupEnd r) switched retired
-          ∙ ap₂ (λ (b : Bool) (x : ℕ). getD (transition o groupEnd .readbacks) (placeOf b m x) 0) (sym a) (sym stored)
-          ∙ end-word m deep o groupEnd d (words-long start before ∙ long) r ends,
-    )
+    let g = keptOver n m setpoints readbacks before in
+    let h = holds-over n m setpoints readbacks before in
+    let few : length (g .current) < m = omega (arith, sym (h .stored), few-stored m deep o d r) in
+    let full = words-long start before ∙ long in
+    let d' = depths-step o groupEnd .1 ∙ d in
+    let e = ended-step o groupEnd ends in
+    let switched = same-active (e .leaves) ∙ group-active (o .channel) (r .registers) ∙ ap not a in
+    let kept = holds-step g o groupEnd r h in
+    record {
+      second = second;
+      active = reads-active (transition o groupEnd) switched;
+      count = length (g .current);
+      counted =
+          retires (transition o groupEnd) m _ d' (stays o groupEnd .readback-words ∙ full) (channel-step o groupEnd r) kept .1
+          ∙ ap partLength (sym (kept .retired) ∙ retired-count o (transition o groupEnd) (e .leaves .readbacks) ∙ h .stored);
+      within = few;
+      word =
+          retired-stays m deep second (length (g .current)) few (transition o groupEnd) later d' (channel-step o groupEnd r) switched retired
+          ∙ ap₂ (λ (b : Bool) (x : ℕ). getD (transition o groupEnd .readbacks) (placeOf b m x) 0) (sym a) (sym (h .stored))
+          ∙ end-word m deep o groupEnd d full r ends;
+    }

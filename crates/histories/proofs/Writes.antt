@@ -25,7 +25,7 @@ use Rattle.channel.specs.OneChannel.{ChannelCall, OneChannel, queryAnswer, main
 use Rattle.channel.specs.OneChannel as call
 use Rattle.channel.proofs.Cases.{either}
 use Rattle.histories.specs.History.{isKept, entry, replyWord, asks}
-use Rattle.histories.specs.EndWords.{laidBy, withLaid}
+use Rattle.histories.specs.EndWords.{wordWrittenBy, withWritten}
 use Rattle.histories.proofs.Cases.{by-offset}
 use Rattle.histories.proofs.Refusing.{by-refusal}
 
@@ -63,12 +63,12 @@ module _ (c : Channel) (s : List ℕ) (m : ℕ) (P : List ℕ → Type 0) (none 
 -- ---- By what the call answers
 
 -- the word that a call with this answer writes, a command frame taking a reply or not; it is a Group End or not, and would store these words
-abbrev laid : Answer → Bool → Bool → List ℕ → List ℕ
-laid a taken ends words = cond ends (0x2000000 ∷ []) (cond (isKept a && not taken) words [])
+abbrev written : Answer → Bool → Bool → List ℕ → List ℕ
+written a taken ends words = cond ends (0x2000000 ∷ []) (cond (isKept a && not taken) words [])
 
 module _ (o : OneChannel) where
   abbrev withWord : List ℕ → List ℕ
-  withWord words = withLaid (o .readbacks) (nextPlace (o .channel) (o .m)) words
+  withWord words = withWritten (o .readbacks) (nextPlace (o .channel) (o .m)) words
 
   -- a call that has no word, whatever it answers
   none : (b : Bool) → o .readbacks ≡ withWord (cond b [] [])
@@ -91,38 +91,38 @@ module _ (o : OneChannel) where
 
   received-words : (word : ℕ)
       → receivedWords (dispositionNow (o .channel) (o .m)) (o .channel) (o .readbacks) (o .m) word
-      ≡ withWord (laid (receiptAnswer (dispositionNow (o .channel) (o .m))) false false (word ∷ []))
+      ≡ withWord (written (receiptAnswer (dispositionNow (o .channel) (o .m))) false false (word ∷ []))
   unfolding dispositionNow dispositionOf
   received-words word =
       go (isDue (isIdle (o .channel .sequencer .stage)) (o .channel .sequencer .last)) (ltb (o .channel .readbacks .stored) (capacity (o .m))) refl
     where
       go : (due space : Bool) → ltb (o .channel .readbacks .stored) (capacity (o .m)) ≡ space
           → let d : Disposition = cond due (cond space disposition.Kept disposition.Lost) disposition.Unsolicited in
-          receivedWords d (o .channel) (o .readbacks) (o .m) word ≡ withWord (laid (receiptAnswer d) false false (word ∷ []))
+          receivedWords d (o .channel) (o .readbacks) (o .m) word ≡ withWord (written (receiptAnswer d) false false (word ∷ []))
       go true true e = rw e
       go true false e = refl
       go false space e = refl
 
   reply-words : (f : ℕ)
       → replyWords (o .channel) (o .readbacks) (o .m) (o .user) f
-      ≡ withWord (laid (replyAnswer (o .channel) (o .m) f) (takes (o .channel .commands)) false (replyWord o (read f)))
+      ≡ withWord (written (replyAnswer (o .channel) (o .m) f) (takes (o .channel .commands)) false (replyWord o (read f)))
   unfolding replyWords replyAnswer
   reply-words f = go (read f)
     where
       taken : (word : ℕ) (b : Bool)
           → cond b (o .readbacks) (receivedWords (dispositionNow (o .channel) (o .m)) (o .channel) (o .readbacks) (o .m) word)
-          ≡ withWord (laid (cond b ans.kept (receiptAnswer (dispositionNow (o .channel) (o .m)))) b false (word ∷ []))
+          ≡ withWord (written (cond b ans.kept (receiptAnswer (dispositionNow (o .channel) (o .m)))) b false (word ∷ []))
       taken word true = refl
       taken word false = received-words word
 
       go : (q : Reading)
           → replyWordsAs q (o .channel) (o .readbacks) (o .m) (o .user)
-          ≡ withWord (laid (replyAnswerAs q (o .channel) (o .m)) (takes (o .channel .commands)) false (replyWord o q))
+          ≡ withWord (written (replyAnswerAs q (o .channel) (o .m)) (takes (o .channel .commands)) false (replyWord o q))
       go (frame.refused k) = refl
       go (frame.fields id word aux crc) = taken _ (takes (o .channel .commands))
 
   effect-words : (k : ChannelCall)
-      → effect o k .readbacks ≡ withWord (laid (answer o k) (takes (o .channel .commands)) (asks o k .groupEnd) (asks o k .word))
+      → effect o k .readbacks ≡ withWord (written (answer o k) (takes (o .channel .commands)) (asks o k .groupEnd) (asks o k .word))
   unfolding effect answer eventWords
   effect-words (call.writeRegister lent offset value) = register-words offset value
   effect-words (call.readRegister offset) = refl
@@ -137,9 +137,9 @@ module _ (o : OneChannel) where
   effect-words (call.writeMain lent offset value) = refl
   effect-words (call.readMain offset) = none (isKept (mainAnswer (o .channel) offset) && not (takes (o .channel .commands)))
 
-  pub words-step : (k : ChannelCall) → transition o k .readbacks ≡ withWord (laidBy (record { entry = entry o k; commands = o .channel .commands }))
+  pub words-step : (k : ChannelCall) → transition o k .readbacks ≡ withWord (wordWrittenBy (record { entry = entry o k; commands = o .channel .commands }))
   words-step k =
       by-refusal
       (λ (x : OneChannel) (a : Answer) (ends again stops : Bool) (reads : ℕ → Bool).
-      x .readbacks ≡ withWord (laid a (takes (o .channel .commands)) ends (asks o k .word)))
+      x .readbacks ≡ withWord (written a (takes (o .channel .commands)) ends (asks o k .word)))
       o k (λ e. effect-words k) refl

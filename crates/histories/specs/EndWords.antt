@@ -1,5 +1,5 @@
--- Document 02, card 3: "Group End always writes the end word." Told by calls and what they answered, as all that specs/History tells: which readback
--- buffer is active, what each call writes to the buffers; and so the end word behind the retired part.
+-- Document 02, card 3: "Group End always writes the end word." Told, as in specs/History, by calls and what they answered: which readback buffer is
+-- active, what each call writes to the buffers; and so the end word behind the readbacks that a Group End retires.
 use Prim.Native.Nat.{ℕ, _*_, _≤_, _<_}
 use mathlib.Core.Path.{_≡_}
 use mathlib.Core.Bool.{Bool, true, false, cond, not}
@@ -37,14 +37,14 @@ ActiveTold =
 
 -- ---- What a call writes to the readback buffers
 
--- a Group End its end word, a reply that is kept for a setpoint its own; no other call writes
-abbrev pub laidBy : Told → List ℕ
-laidBy t = cond (endsGroup (t .entry)) (0x2000000 ∷ []) (storedBy t)
+-- the word, if there is one: a Group End writes its end word, a reply that is kept for a setpoint its own; no other call writes
+abbrev pub wordWrittenBy : Told → List ℕ
+wordWrittenBy t = cond (endsGroup (t .entry)) (0x2000000 ∷ []) (storedBy t)
 
--- words with one of them written, or none
-abbrev pub withLaid : List ℕ → (place : ℕ) → List ℕ → List ℕ
-withLaid s place [] = s
-withLaid s place (word ∷ words) = set s place word
+-- the words `s` with that word written at this place
+abbrev pub withWritten : List ℕ → (place : ℕ) → List ℕ → List ℕ
+withWritten s place [] = s
+withWritten s place (word ∷ words) = set s place word
 
 -- from an opening, after any list of calls, one call more: every word of both buffers. What it writes goes after the replies kept since the last Group
 -- End, reset or opening, in the active buffer.
@@ -53,8 +53,8 @@ WordsTold =
     (n m : ℕ) (setpoints readbacks : List ℕ) (ks : List ChannelCall) (k : ChannelCall)
     → let o = transitions (oneChannel n m setpoints readbacks) ks in
     transition o k .readbacks
-    ≡ withLaid (o .readbacks) (placeOf (secondActiveOver n m setpoints readbacks ks) m (length (keptOver n m setpoints readbacks ks .current)))
-    (laidBy (record { entry = entry o k; commands = commandsOver n m setpoints readbacks ks }))
+    ≡ withWritten (o .readbacks) (placeOf (secondActiveOver n m setpoints readbacks ks) m (length (keptOver n m setpoints readbacks ks .current)))
+    (wordWrittenBy (record { entry = entry o k; commands = commandsOver n m setpoints readbacks ks }))
 
 -- one call, refused or not, from any state in range: no word of the buffer that is not active changes, not at a Group End or a reset either
 abbrev pub InactiveUnchanged : Type 0
@@ -70,6 +70,32 @@ abbrev pub GroupEndAccepted : Type 0
 GroupEndAccepted =
     (o : OneChannel) (code value : ℕ) → (refusalOf o (event (o .m * 8) code) ≡ 0) × (refusalOf o (writeRegister (o .m * 8) 0x08 value) ≡ 0)
 
+-- at the state `ended` 0E reads which buffer is active, the other one is retired, and the twin of retired readbacks answers `count`, which is below M; at
+-- the state `now` the word at that index of that buffer is 02000000h
+pub record EndWord (ended now : OneChannel) (m : ℕ) : Type 0 where
+  pub second : Bool
+  pub active : ReadsBit 8 ended 0x0e (not second)
+  pub count : ℕ
+  pub counted : response ended (query retiredLength m m) ≡ partLength count
+  pub within : count < m
+  pub word : getD (now .readbacks) (placeOf second m count) 0 ≡ 0x2000000
+
+-- after none of these calls is this buffer active again (`second`: buffer 2): the other one stays active
+abbrev pub StaysRetired : (second : Bool) → List Entry → Type 0
+StaysRetired second [] = Unit {0}
+StaysRetired second (e ∷ es) = (secondActiveAfter (not second) e ≡ not second) × StaysRetired second es
+
+-- from an opening of a fitting length, with any M from 1 on: after any calls a Group End that takes place, and then any calls after which the buffer that
+-- it retired is not active again. (A reset sets the retired count to 0. Where buffer 2 was the retired one, it stays inactive, and its end word where it was.)
+abbrev pub EndWordStays : Type 0
+EndWordStays =
+    (n m : ℕ) (setpoints readbacks : List ℕ) → 1 ≤ m → length readbacks ≡ m * 2
+    → (before : List ChannelCall) (groupEnd : ChannelCall) (later : List ChannelCall)
+    → let o = transitions (oneChannel n m setpoints readbacks) before in
+    endsGroup (entry o groupEnd) ≡ true
+    → StaysRetired (secondActiveOver n m setpoints readbacks before) (history (transition o groupEnd) later)
+    → EndWord (transition o groupEnd) (transitions (transition o groupEnd) later) m
+
 -- a group has retired: of the Group Ends and resets so far the last was a Group End
 abbrev pub groupRetiredAfter : Bool → Entry → Bool
 groupRetiredAfter retired e = cond (resets e) false (cond (endsGroup e) true retired)
@@ -81,38 +107,9 @@ groupRetiredSince retired (e ∷ es) = groupRetiredSince (groupRetiredAfter reti
 abbrev pub groupRetiredOver : ℕ → ℕ → List ℕ → List ℕ → List ChannelCall → Bool
 groupRetiredOver n m setpoints readbacks ks = groupRetiredSince false (history (oneChannel n m setpoints readbacks) ks)
 
--- at one state: 0E reads which buffer is active; the twin of retired readbacks answers `count`, which leaves a place in a buffer; and the word at that
--- index of the other buffer is 02000000h
-pub record EndWord (o : OneChannel) (m : ℕ) : Type 0 where
-  pub second : Bool
-  pub active : ReadsBit 8 o 0x0e second
-  pub count : ℕ
-  pub counted : response o (query retiredLength m m) ≡ partLength count
-  pub within : count < m
-  pub word : getD (o .readbacks) (placeOf (not second) m count) 0 ≡ 0x2000000
-
--- from an opening of a fitting length, with any M from 1 on, after any list of calls, where a group has retired
+-- and all at one state: after any list of calls, where a group has retired
 abbrev pub EndWordStands : Type 0
 EndWordStands =
     (n m : ℕ) (setpoints readbacks : List ℕ) → 1 ≤ m → length readbacks ≡ m * 2
     → (ks : List ChannelCall) → groupRetiredOver n m setpoints readbacks ks ≡ true
-    → EndWord (transitions (oneChannel n m setpoints readbacks) ks) m
-
--- `second` names buffer 2: after none of these calls is that buffer active again, the other one stays active
-abbrev pub StaysRetired : (second : Bool) → List Entry → Type 0
-StaysRetired second [] = Unit {0}
-StaysRetired second (e ∷ es) = (secondActiveAfter (not second) e ≡ not second) × StaysRetired second es
-
--- and it stays until that buffer is active again: a Group End after any calls, then calls after which the buffer that it retired is not active again. The
--- index is `count`, the number of replies that were kept for that buffer. (A reset sets the retired count to 0. Where buffer 2 was the retired one, it stays
--- inactive, and its end word where it was.)
-abbrev pub EndWordStays : Type 0
-EndWordStays =
-    (n m : ℕ) (setpoints readbacks : List ℕ) → 1 ≤ m → length readbacks ≡ m * 2
-    → (before : List ChannelCall) (groupEnd : ChannelCall) (later : List ChannelCall)
-    → let o = transitions (oneChannel n m setpoints readbacks) before in
-    let second = secondActiveOver n m setpoints readbacks before in
-    let count = length (keptOver n m setpoints readbacks before .current) in
-    endsGroup (entry o groupEnd) ≡ true
-    → StaysRetired second (history (transition o groupEnd) later)
-    → (count < m) × (getD (transitions (transition o groupEnd) later .readbacks) (placeOf second m count) 0 ≡ 0x2000000)
+    → EndWord (transitions (oneChannel n m setpoints readbacks) ks) (transitions (oneChannel n m setpoints readbacks) ks) m

@@ -1,41 +1,37 @@
--- The end word stands in the board's memory: each channel is as it would be alone, and alone it finds it there. Assumes nothing.
+-- The end word stands in the board's memory: each channel is as it would be alone, and alone its end word stands in its own words. Assumes nothing.
 use Prim.Native.Nat.{ℕ, _+_, _-_, _*_, _<_}
 use mathlib.Core.Path.{_≡_, refl, sym, ap, ap₂, subst, _∙_}
 use mathlib.Core.Logic.{inr}
-use mathlib.Core.Bool.{Bool, true, false, not}
+use mathlib.Core.Bool.{Bool, true, false, not, Bool·not-not}
 use mathlib.Core.List.{List, [], _∷_, _++_}
 use native.Mathlib.Nat.{add-mul, mul-assoc, mul-comm}
 use native.Mathlib.Omega.{arith}
 use lib.ListN.{length, getD, take, drop, length-take, length-drop}
-use lib.Dec.{eqb}
 use lib.Seq.{getD-take, getD-drop}
 use borrow.Author.Tests.{eq-eqb}
 use Rattle.address_map.proofs.Laws.{channel-named}
-use Rattle.register_map.specs.AccessRule.{channelAccess}
 use Rattle.status.specs.Bits.{bitOf}
 use Rattle.readback.specs.Storing.{placeOf}
-use Rattle.channel_core.specs.State as core
 use Rattle.channel_core.specs.Answers as ans
-use Rattle.channel_registers.specs.Calls.{registerRefusal}
 use Rattle.channel.specs.OneChannel.{OneChannel, ChannelCall, refusalOf, transition, response, transitions}
 use Rattle.channel.specs.OneChannel as to
 use Rattle.histories.specs.History.{entry, history, endsGroup}
-use Rattle.histories.specs.Keeping.{keptOver}
-use Rattle.histories.specs.EndWords.{secondActiveOver, groupRetiredSince, groupRetiredOver, StaysRetired}
+use Rattle.histories.specs.EndWords.{secondActiveOver, StaysRetired}
+use Rattle.histories.specs.EndWords as alone
 use Rattle.histories.proofs.Depths.{depths-step, depths-kept}
-use Rattle.histories.proofs.EndWords.{end-word-stands, end-word-stays}
+use Rattle.histories.proofs.EndWords.{end-word-stands as stands-alone, end-word-stays as stays-alone, group-end-accepted as accepted-alone}
 use Rattle.board_state.specs.Parts.{own}
 use Rattle.board.specs.Answers.{one}
 use Rattle.board.specs.Calls.{openAnswer}
 use Rattle.board.specs.Worlds.{World}
 use Rattle.isolation.specs.Calls.{query, first, second, Item, answer, ownBuffers, step, Allowed, worldAfter, opening}
 use Rattle.isolation.specs.Feeding.{feeds, fed, view}
-use Rattle.isolation.specs.Isolation.{oneChannelAt, EndWordFound, EndWordLasts, endingGroup, GroupRetires}
+use Rattle.isolation.specs.Isolation.{oneChannelAt, EndWord, EndWordStands, EndWordStays, groupEndOf, groupEndTo, GroupEndAccepted}
 use Rattle.isolation.proofs.Parts.{Number, own-length}
 use Rattle.isolation.proofs.Worlds.{Good}
 use Rattle.isolation.proofs.Observing.{observe-query}
 use Rattle.isolation.proofs.Isolation.{isolation, along, good-step, good-opening, open-fits}
-use Rattle.isolation.proofs.Shown.{isolation-shown}
+use Rattle.isolation.proofs.Shown.{register-shown}
 
 -- ---- A list cut in two
 
@@ -103,10 +99,26 @@ word-alone w o c m b i e d within =
     ∙ ap (λ (x : ℕ). getD (own (w .readbacks) (x * 2) c) (placeOf b m i) 0) (sym depth)
     ∙ ap (λ (x : OneChannel). getD (x .readbacks) (placeOf b m i) 0) e
 
--- ---- Behind the retired part
+-- two worlds in which channel c is as these are alone: its end word
+found-alone : (c m : ℕ) (h : Number c) (ended now : World) (x y : OneChannel) → Good ended → view c ended ≡ x → view c now ≡ y → x .m ≡ m → y .m ≡ m
+    → alone.EndWord x y m → EndWord c m ended now
+found-alone c m h ended now x y g e f d d' q =
+    record {
+      register = q .active .word;
+      active = register-shown c h ended 0x0e (omega arith) ∙ ap (λ (z : OneChannel). response z (to.readRegister 0x0e)) e ∙ q .active .answers;
+      count = q .count;
+      counted =
+          counted-alone ended c m h g (ap (λ (z : OneChannel). z .m) e ∙ d)
+          ∙ ap one (ap (λ (z : OneChannel). response z (to.query to.retiredLength m m)) e ∙ q .counted);
+      within = q .within;
+      word =
+          ap (λ (b : Bool). getD (now .readbacks) (((c - 1) * 2 + bitOf (not b)) * m + q .count) 0) (q .active .bit-is)
+          ∙ ap (λ (b : Bool). getD (now .readbacks) (((c - 1) * 2 + bitOf b) * m + q .count) 0) (Bool·not-not (q .second))
+          ∙ word-alone now y c m (q .second) (q .count) f d' (q .within) ∙ q .word;
+    }
 
-pub end-word-found : EndWordFound
-end-word-found n m s r opens c low high xs a retired =
+pub end-word-stands : EndWordStands
+end-word-stands n m s r opens c low high xs a retired =
     let h : Number c = record { low = low; high = high } in
     let f = open-fits n m s r opens in
     let w = worldAfter (opening n m s r) xs in
@@ -114,19 +126,8 @@ end-word-found n m s r opens c low high xs a retired =
     let o = transitions start (fed c xs) in
     let e : view c w ≡ o = isolation n m s r opens c low high xs a .ends in
     let d = depths-kept start (fed c xs) .1 in
-    let q = end-word-stands n m (own s (n * 16) c) (own r (m * 2) c) (f .1) (own-length r (m * 2) (f .3 ∙ four m) c h) (fed c xs) retired in
-    record {
-      register = q .active .word;
-      read = isolation-shown n m s r opens c low high xs a .registers 0x0e (omega arith) ∙ q .active .answers;
-      count = q .count;
-      counted =
-          counted-alone w c m h (good-after (opening n m s r) xs (good-opening n m s r opens) a) (ap (λ (x : OneChannel). x .m) e ∙ d)
-          ∙ ap one (ap (λ (x : OneChannel). response x (to.query to.retiredLength m m)) e ∙ q .counted);
-      within = q .within;
-      word =
-          ap (λ (b : Bool). getD (w .readbacks) (((c - 1) * 2 + bitOf (not b)) * m + q .count) 0) (q .active .bit-is)
-          ∙ word-alone w o c m (not (q .second)) (q .count) e d (q .within) ∙ q .word;
-    }
+    found-alone c m h w w o o (good-after (opening n m s r) xs (good-opening n m s r opens) a) e e d d
+    (stands-alone n m (own s (n * 16) c) (own r (m * 2) c) (f .1) (own-length r (m * 2) (f .3 ∙ four m) c h) (fed c xs) retired)
 
 -- ---- A Group End, and what comes after it
 
@@ -166,44 +167,39 @@ module _
         ∙ along c h later (step w groupEnd) (good-step w good groupEnd (cut .1 .0)) (cut .1 .1) .ends
         ∙ ap (λ (x : OneChannel). transitions x (fed c later)) view-ended
 
-    -- the buffer that retires, and the readbacks in it
-    abbrev inSecond : Bool
-    inSecond = secondActiveOver n m (own s (n * 16) c) (own r (m * 2) c) (fed c before)
+    abbrev second-retires : Bool
+    second-retires = secondActiveOver n m (own s (n * 16) c) (own r (m * 2) c) (fed c before)
 
-    abbrev count : ℕ
-    count = length (keptOver n m (own s (n * 16) c) (own r (m * 2) c) (fed c before) .current)
-
-    lasts : endsGroup (entry (view c w) k) ≡ true → StaysRetired inSecond (history (view c (step w groupEnd)) (fed c later))
-        → (count < m)
-        × (getD (worldAfter (opening n m s r) (before ++ (groupEnd ∷ later)) .readbacks) (((c - 1) * 2 + bitOf inSecond) * m + count) 0 ≡ 0x2000000)
-    lasts ends retired =
+    stays : endsGroup (entry (view c w) k) ≡ true → StaysRetired second-retires (history (view c (step w groupEnd)) (fed c later))
+        → EndWord c m (step w groupEnd) (worldAfter (opening n m s r) (before ++ (groupEnd ∷ later)))
+    stays ends retired =
         let f = open-fits n m s r opens in
-        let d = depths-kept (transition o k) (fed c later) .1 ∙ depths-step o k .1 ∙ depths-kept start (fed c before) .1 in
-        let e =
-        end-word-stays n m (own s (n * 16) c) (own r (m * 2) c) (f .1) (own-length r (m * 2) (f .3 ∙ four m) c h) (fed c before) k (fed c later)
+        let d = depths-step o k .1 ∙ depths-kept start (fed c before) .1 in
+        found-alone c m h (step w groupEnd) (worldAfter (opening n m s r) (before ++ (groupEnd ∷ later))) (transition o k)
+        (transitions (transition o k) (fed c later)) (good-step w good groupEnd (cut .1 .0)) view-ended view-later d
+        (depths-kept (transition o k) (fed c later) .1 ∙ d)
+        (stays-alone n m (own s (n * 16) c) (own r (m * 2) c) (f .1) (own-length r (m * 2) (f .3 ∙ four m) c h) (fed c before) k (fed c later)
         (subst (λ (x : OneChannel). endsGroup (entry x k) ≡ true) view-before ends)
-        (subst (λ (x : OneChannel). StaysRetired inSecond (history x (fed c later))) view-ended retired) in
-        let v = worldAfter (opening n m s r) (before ++ (groupEnd ∷ later)) in
-        (e .0, word-alone v (transitions (transition o k) (fed c later)) c m inSecond count view-later d (e .0) ∙ e .1)
+        (subst (λ (x : OneChannel). StaysRetired second-retires (history x (fed c later))) view-ended retired))
 
-pub end-word-lasts : EndWordLasts
-end-word-lasts n m s r opens c low high before groupEnd later a k fed-end ends retired =
-    lasts n m s r opens c (record { low = low; high = high }) before groupEnd later a k fed-end ends retired
+pub end-word-stays : EndWordStays
+end-word-stays n m s r opens c low high before groupEnd later a k fed-end ends retired =
+    stays n m s r opens c (record { low = low; high = high }) before groupEnd later a k fed-end ends retired
 
--- ---- There are such lists
+-- ---- There are such Group Ends
 
-module _ (n m : ℕ) (s r : List ℕ) (opens : openAnswer n m (length s) (length r) ≡ ans.done) (c : ℕ) (h : Number c) where
-  abbrev call : ChannelCall
-  call = to.writeRegister (length r) 0x08 4
+allowed-more : (w : World) (xs ys : List Item) → Allowed w xs → Allowed (worldAfter w xs) ys → Allowed w (xs ++ ys)
+allowed-more w [] ys a b = b
+allowed-more w (i ∷ xs) ys a b = (a .0, allowed-more (step w i) xs ys (a .1) b)
 
-  fed-call : fed c (endingGroup c r ∷ []) ≡ call ∷ []
-  fed-call = rw (channel-named c 0x08 (h .low) (h .high) (omega arith), eq-eqb c c refl)
-
-  retires : groupRetiredOver n m (own s (n * 16) c) (own r (m * 2) c) (call ∷ []) ≡ true
-  unfolding groupRetiredSince response refusalOf registerRefusal channelAccess to.answer core.opened
-  retires = let fits : eqb (length r) (m * 8) ≡ true = eq-eqb (length r) (m * 8) (open-fits n m s r opens .3) in rw fits
-
-pub group-retires : GroupRetires
-group-retires n m s r opens c low high =
-    let h : Number c = record { low = low; high = high } in
-    ((inr refl, tt), subst (λ (ks : List ChannelCall). groupRetiredOver n m (own s (n * 16) c) (own r (m * 2) c) ks ≡ true) (sym (fed-call n m s r opens c h)) (retires n m s r opens c h))
+pub group-end-accepted : GroupEndAccepted
+unfolding response to.answer
+group-end-accepted n m s r opens c low high before a =
+    let w = worldAfter (opening n m s r) before in
+    let g = good-after (opening n m s r) before (good-opening n m s r opens) a in
+    let accepted : refusalOf (view c w) (groupEndTo w) ≡ 0 =
+    ap (λ (x : ℕ). refusalOf (view c w) (to.writeRegister x 0x08 4)) (g .reads) ∙ accepted-alone (view c w) 0 4 .1 in (
+      allowed-more (opening n m s r) before (groupEndOf c w ∷ []) a (inr refl, tt),
+      rw (channel-named c 0x08 low high (omega arith), eq-eqb c c refl),
+      rw accepted,
+    )

@@ -29,7 +29,7 @@ use Rattle.isolation.proofs.Observing.{observe-read}
 use Rattle.isolation.proofs.Isolation.{isolation, good-opening}
 
 module _ (c : ℕ) (h : Number c) (w : World) where
-  register-shown : (o : ℕ) → o < 0x800 → readAnswer (w .board) (0x800 * c + o) ≡ response (view c w) (to.readRegister o)
+  pub register-shown : (o : ℕ) → o < 0x800 → readAnswer (w .board) (0x800 * c + o) ≡ response (view c w) (to.readRegister o)
   unfolding answer
   register-shown o l = observe-read w c h (0x800 * c + o) o none (channel-named c o (h .low) (h .high) l)
 

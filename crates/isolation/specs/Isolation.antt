@@ -1,7 +1,6 @@
 -- Document 01, 'What holds it to this': demand 3, "each channel behaves as it would alone". The claim, and what stands beside it.
 -- Proofs: Isolation and FedTheSame in proofs/Isolation.antt, IsolationShown, MissingCounted and NotVacuous in Shown, DefaultsUnused and
--- OneFrameATick in Defaults, EndWordFound, EndWordLasts and GroupRetires in
--- EndWords, the others in Refused and Others.
+-- OneFrameATick in Defaults, EndWordStays, EndWordStands and GroupEndAccepted in EndWords, the others in Refused and Others.
 use Prim.Native.Nat.{ℕ, _+_, _-_, _*_, _<_, _≤_}
 use mathlib.Core.Path.{_≡_}
 use mathlib.Core.Bool.{true, false, not}
@@ -16,7 +15,6 @@ use Rattle.channel.specs.Calls.{mainBit}
 use Rattle.channel.specs.OneChannel.{OneChannel, ChannelCall, oneChannel, response, transitions, responses, bufferOne, bufferTwo}
 use Rattle.channel.specs.OneChannel as to
 use Rattle.histories.specs.History.{entry, history, endsGroup}
-use Rattle.histories.specs.Keeping.{keptOver}
 use Rattle.histories.specs.Ranges.{InRange}
 use Rattle.histories.specs.Missing.{shortfallsOver, missingCount}
 use Rattle.histories.specs.EndWords.{secondActiveOver, groupRetiredOver, StaysRetired}
@@ -144,54 +142,58 @@ MissingCounted =
     → readAnswer (worldAfter (opening n m s r) xs .board) (0x800 * c + 0x0c)
     ≡ ans.value (missingCount (shortfallsOver n m (own s (n * 16) c) (own r (m * 2) c) (fed c xs) 0x0c))
 
--- document 02, card 3: the end word in the board's memory, which is "by channel, buffer, index". In one world: 0E of channel c reads which buffer is
--- active; the twin of retired readbacks, lent the channel's buffers, answers `count`, which leaves a place in a buffer; and the word at that index of the
--- other buffer is 02000000h
-pub record EndWordIn (c m : ℕ) (w : World) : Type 0 where
+-- document 02, card 3: the end word in the board's memory, which is "by channel, buffer, index". In the world `ended` 0E of channel c reads which buffer
+-- is active, the other one is retired, and the twin of retired readbacks, lent the channel's buffers, answers `count`, which is below M; in the world
+-- `now` the word at that index of that buffer is 02000000h
+pub record EndWord (c m : ℕ) (ended now : World) : Type 0 where
   pub register : ℕ
-  pub read : readAnswer (w .board) (0x800 * c + 0x0e) ≡ ans.value register
+  pub active : readAnswer (ended .board) (0x800 * c + 0x0e) ≡ ans.value register
   pub count : ℕ
-  pub counted : answer (w .board) (query c to.retiredLength) (ownBuffers w c) ≡ one (ans.partLength count)
+  pub counted : answer (ended .board) (query c to.retiredLength) (ownBuffers ended c) ≡ one (ans.partLength count)
   pub within : count < m
-  pub word : getD (w .readbacks) (((c - 1) * 2 + bitOf (not (bitAt register 8))) * m + count) 0 ≡ 0x2000000
+  pub word : getD (now .readbacks) (((c - 1) * 2 + bitOf (not (bitAt register 8))) * m + count) 0 ≡ 0x2000000
 
--- "Group End always writes the end word.": so from an opening, with any M that it allows, over any allowed list, where the calls fed to c tell that a
--- group of c has retired
-abbrev pub EndWordFound : Type 0
-EndWordFound =
-    (n m : ℕ) (s r : List ℕ)
-    → openAnswer n m (length s) (length r) ≡ ans.done
-    → (c : ℕ) → 1 ≤ c → c ≤ 4
-    → (xs : List Item) → Allowed (opening n m s r) xs
-    → groupRetiredOver n m (own s (n * 16) c) (own r (m * 2) c) (fed c xs) ≡ true
-    → EndWordIn c m (worldAfter (opening n m s r) xs)
-
--- and it stays until that buffer is active again: an allowed list of any calls, a call of which c is fed a Group End that takes place, and calls after
--- which the buffer that it retired is not active again. The index is `count`, the number of replies that were kept for that buffer.
-abbrev pub EndWordLasts : Type 0
-EndWordLasts =
+-- "Group End always writes the end word.": from an opening, with any M that it allows, over any allowed list: any calls, one of which c is fed a Group
+-- End that takes place, and then any calls after which the buffer that it retired is not active again
+abbrev pub EndWordStays : Type 0
+EndWordStays =
     (n m : ℕ) (s r : List ℕ)
     → openAnswer n m (length s) (length r) ≡ ans.done
     → (c : ℕ) → 1 ≤ c → c ≤ 4
     → (before : List Item) (groupEnd : Item) (later : List Item) → Allowed (opening n m s r) (before ++ (groupEnd ∷ later))
     → let w = worldAfter (opening n m s r) before in
-    let second = secondActiveOver n m (own s (n * 16) c) (own r (m * 2) c) (fed c before) in
-    let count = length (keptOver n m (own s (n * 16) c) (own r (m * 2) c) (fed c before) .current) in
     (k : ChannelCall) → feeds c groupEnd ≡ k ∷ [] → endsGroup (entry (view c w) k) ≡ true
-    → StaysRetired second (history (view c (step w groupEnd)) (fed c later))
-    → (count < m) × (getD (worldAfter (opening n m s r) (before ++ (groupEnd ∷ later)) .readbacks) (((c - 1) * 2 + bitOf second) * m + count) 0 ≡ 0x2000000)
+    → StaysRetired (secondActiveOver n m (own s (n * 16) c) (own r (m * 2) c) (fed c before)) (history (view c (step w groupEnd)) (fed c later))
+    → EndWord c m (step w groupEnd) (worldAfter (opening n m s r) (before ++ (groupEnd ∷ later)))
 
--- there are lists after which a group has retired: Commands with D2, lent the memory
-abbrev pub endingGroup : ℕ → List ℕ → Item
-endingGroup c r = record { call = writeRegister (0x800 * c + 0x08) 4; lent = words r }
-
-abbrev pub GroupRetires : Type 0
-GroupRetires =
+-- and all in one world: over any allowed list, where the calls fed to c tell that a group of c has retired
+abbrev pub EndWordStands : Type 0
+EndWordStands =
     (n m : ℕ) (s r : List ℕ)
     → openAnswer n m (length s) (length r) ≡ ans.done
     → (c : ℕ) → 1 ≤ c → c ≤ 4
-    → Allowed (opening n m s r) (endingGroup c r ∷ [])
-    × (groupRetiredOver n m (own s (n * 16) c) (own r (m * 2) c) (fed c (endingGroup c r ∷ [])) ≡ true)
+    → (xs : List Item) → Allowed (opening n m s r) xs
+    → groupRetiredOver n m (own s (n * 16) c) (own r (m * 2) c) (fed c xs) ≡ true
+    → EndWord c m (worldAfter (opening n m s r) xs) (worldAfter (opening n m s r) xs)
+
+-- Commands with D2 for channel c, lent the memory of this world; and what c is fed of it
+abbrev pub groupEndOf : ℕ → World → Item
+groupEndOf c w = record { call = writeRegister (0x800 * c + 0x08) 4; lent = words (w .readbacks) }
+
+abbrev pub groupEndTo : World → ChannelCall
+groupEndTo w = to.writeRegister (length (w .readbacks)) 0x08 4
+
+-- after any allowed list, whatever the buffers hold, it is allowed, and is such a Group End
+abbrev pub GroupEndAccepted : Type 0
+GroupEndAccepted =
+    (n m : ℕ) (s r : List ℕ)
+    → openAnswer n m (length s) (length r) ≡ ans.done
+    → (c : ℕ) → 1 ≤ c → c ≤ 4
+    → (before : List Item) → Allowed (opening n m s r) before
+    → let w = worldAfter (opening n m s r) before in
+    Allowed (opening n m s r) (before ++ (groupEndOf c w ∷ []))
+    × (feeds c (groupEndOf c w) ≡ groupEndTo w ∷ [])
+    × (endsGroup (entry (view c w) (groupEndTo w)) ≡ true)
 
 -- there are allowed lists: a setpoint write to channel 5, which is lent any words at all and refused, then a tick, which is not
 abbrev pub astray : List ℕ → Item

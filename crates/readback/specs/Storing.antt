@@ -27,7 +27,7 @@ storedWord l user wrong id word =
     bitOf (l .first) * 0x80000000 + bitOf (l .paused) * 0x40000000 + bitOf (l .last) * 0x20000000
     + ((user - 1) % 8 * 0x4000000 + bitOf wrong * 0x1000000) + id * 0x10000 + word
 
--- index of a readback in the channel's 2 × M words, "by .. buffer, index"
+-- index of a readback, or of the end word, in the channel's 2 × M words, "by .. buffer, index"
 abbrev pub placeOf : Bool → ℕ → ℕ → ℕ
 placeOf second m index = cond second (m + index) index
 
@@ -48,11 +48,11 @@ keptIn r m = record { stored = cond (ltb (r .stored) (capacity m)) (r .stored + 
 abbrev pub keptWords : Readbacks → List ℕ → Bool → ℕ → ℕ → List ℕ
 keptWords r s second m word = cond (ltb (r .stored) (capacity m)) (set s (placeOf second m (r .stored)) word) s
 
--- "02000000h goes after the stored readbacks ..", with space or without: card 3: "Group End always writes the end word." The readbacks leave a place for
--- it in every state that an opening leads to (`InRange`, histories)
 abbrev pub endWord : ℕ
 endWord = 0x2000000
 
+-- "02000000h goes after the stored readbacks ..", full or not: card 3: "Group End always writes the end word." The readbacks leave a place for it in
+-- every state that an opening leads to (`InRange`, histories)
 abbrev pub endWords : Readbacks → List ℕ → Bool → ℕ → List ℕ
 endWords r s second m = set s (placeOf second m (r .stored)) endWord
 

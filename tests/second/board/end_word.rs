@@ -43,8 +43,9 @@ pub struct Groups {
     before: Option<Retired>,
     /// A reset since then.
     is_reset: bool,
-    /// And the buffer was full, or readbacks were retired.
+    /// A reset of a full buffer since then.
     is_reset_full: bool,
+    /// A reset since then while readbacks were retired.
     is_part_reset: bool,
 }
 
@@ -186,7 +187,7 @@ impl Board {
             (self.m > 1 && part.len() == self.capacity(), Did::end_word_part_of_full_buffer),
             (self.m == 1 && is_after_lost, Did::end_word_of_depth_1_part),
             (is_part_reset, Did::end_word_part_empty_after_reset),
-            // of an earlier group, or in buffers not the channel's own
+            // only in buffers lent in exchange or another channel's, or where a word was set behind the board
             (part.contains(&END_WORD), Did::end_word_in_part),
         ]);
     }

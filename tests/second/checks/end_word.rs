@@ -88,17 +88,29 @@ fn depth_2() -> Done {
     ]
 }
 
+/// Full buffers: depths, and as many replies as they take or more.
+const FULL: [(&str, u32, usize); 8] = [
+    ("M 3 full: its words, its part", 3, 2),
+    ("M 3, one reply lost: its words, its part", 3, 3),
+    ("M 7 full: its words, its part", 7, 6),
+    ("M 7, one reply lost: its words, its part", 7, 7),
+    ("M 13, two replies lost: its words, its part", 13, 14),
+    ("M 64 full: its words, its part", 64, 63),
+    ("M 64, one reply lost: its words, its part", 64, 64),
+    ("M 64, seven replies lost: its words, its part", 64, 70),
+];
+
 /// "Group End always writes the end word." "The retired part still excludes the end word."
 fn full() -> Done {
     let mut done = Vec::new();
-    for (m, replies) in [(3, 2), (3, 3), (7, 6), (7, 7), (13, 14), (64, 63), (64, 64), (64, 70)] {
+    for (label, m, replies) in FULL {
         let mut t = Small::started(m);
         let most = m as usize - 1;
         let kept = t.group(replies);
         t.group_end();
         let stored: Vec<u32> = (0..most).map(readback).collect();
         let is_written = t.has(&[&stored[..], &[END_WORD]].concat());
-        done.push(("a full buffer, its end word, its part", kept == Some(most) && is_written && t.part() == stored));
+        done.push((label, kept == Some(most) && is_written && t.part() == stored));
     }
     done
 }

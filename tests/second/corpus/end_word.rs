@@ -27,7 +27,7 @@ pub fn end_word(world: &mut World, s: &Scene) {
 /// How many readbacks a group gets. Deep buffers are filled only in the stories that fill them.
 fn size(world: &World, s: &Scene) -> usize {
     let most = world.board().capacity();
-    let few = s.d.below(8) as usize;
+    let few = (s.d.below(8) as usize).min(most);
     if most > 16 && !s.t.fills {
         return few;
     }
@@ -62,7 +62,7 @@ fn is_full(world: &World, s: &Scene) -> bool {
     s.now(world).stored >= world.board().capacity()
 }
 
-/// Replies to a channel whose buffer is full: none, some, or all six of a send.
+/// Replies to a channel whose buffer is full: none, or up to six more.
 fn lose(world: &mut World, s: &Scene) {
     let count = s.d.of(&[0, 0, 1, 1, 2, 6]);
     if count == 0 || !is_full(world, s) || (!is_reply_due(world, s) && !send(world, s)) {
@@ -84,7 +84,8 @@ fn before_group_end(world: &mut World, s: &Scene) {
             world.put(Op::User(s.user % 8 + 1), d);
             world.put(Op::User(s.user), d);
         }
-        3 => command_with_full_buffer(world, s),
+        3 if is_full(world, s) => command_with_full_buffer(world, s),
+        3 => {}
         4 => reset(world, s),
         _ => {
             send(world, s);
@@ -101,6 +102,6 @@ fn reset(world: &mut World, s: &Scene) {
     }
     world.put(Op::Write(s.at() + 0x0A, 3), d);
     if d.chance(50) {
-        store(world, s, 1);
+        store(world, s, world.board().capacity().min(1));
     }
 }
