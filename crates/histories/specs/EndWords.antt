@@ -85,8 +85,8 @@ abbrev pub StaysRetired : (second : Bool) → List Entry → Type 0
 StaysRetired second [] = Unit {0}
 StaysRetired second (e ∷ es) = (secondActiveAfter (not second) e ≡ not second) × StaysRetired second es
 
--- from an opening of a fitting length, with any M from 1 on: after any calls a Group End that takes place, and then any calls after which the buffer that
--- it retired is not active again. (A reset sets the retired count to 0. Where buffer 2 was the retired one, it stays inactive, and its end word where it was.)
+-- from an opening of a fitting length, with any M from 1 on: any calls; then a Group End, which takes place; then any calls after which the buffer that it
+-- retired is not active again. (A reset sets the retired count to 0. Where buffer 2 was the retired one, it stays inactive, and its end word where it was.)
 abbrev pub EndWordStays : Type 0
 EndWordStays =
     (n m : ℕ) (setpoints readbacks : List ℕ) → 1 ≤ m → length readbacks ≡ m * 2

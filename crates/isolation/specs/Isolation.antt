@@ -153,8 +153,8 @@ pub record EndWord (c m : ℕ) (ended now : World) : Type 0 where
   pub within : count < m
   pub word : getD (now .readbacks) (((c - 1) * 2 + bitOf (not (bitAt register 8))) * m + count) 0 ≡ 0x2000000
 
--- "Group End always writes the end word.": from an opening, with any M that it allows, over any allowed list: any calls, one of which c is fed a Group
--- End that takes place, and then any calls after which the buffer that it retired is not active again
+-- "Group End always writes the end word.": from an opening, with any M that it allows, over any allowed list: any calls; then a call that feeds channel c
+-- a Group End, which takes place; then any calls after which the buffer that it retired is not active again
 abbrev pub EndWordStays : Type 0
 EndWordStays =
     (n m : ℕ) (s r : List ℕ)

@@ -34,7 +34,7 @@ pub fn stored_word(last: LastSend, user: u8, wrong: bool, id: u8, data: u16) -> 
     flags + fields + id as u32 * 0x1_0000 + data as u32
 }
 
-// How many readbacks a buffer takes: its last place is the end word's.
+// How many readbacks a buffer takes: its last place is kept for the end word.
 fn capacity(m: u32) -> u32
     ensures { λ r. ⌜ r ≡ capacity m ⌝ }
 {
