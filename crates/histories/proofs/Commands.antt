@@ -32,6 +32,7 @@ use Rattle.channel.specs.OneChannel as call
 use Rattle.channel.proofs.Cases.{clash, either}
 use Rattle.histories.specs.History.{isKept, entry, history, asks, repliedTo, tickedBy, writtenBy, commandsAfter, commandsSince, Told, told}
 use Rattle.histories.specs.Commands.{commandsOver, CommandsTold, CommandsRead, NeverTogether, CommandTicks}
+use Rattle.histories.proofs.Buffered.{toldAt}
 use Rattle.histories.proofs.Cases.{by-offset}
 use Rattle.histories.proofs.Accepted.{tick-accepted, accepted-answer}
 use Rattle.histories.proofs.Refusing.{accepted-response}
@@ -164,10 +165,10 @@ abbrev pub toldFrom : OneChannel → List ChannelCall → List Told
 toldFrom o ks = told (o .channel .commands) (history o ks)
 
 pub told-next : (o : OneChannel) (k : ChannelCall) (ks : List ChannelCall) → ApartIn (o .channel)
-    → toldFrom o (k ∷ ks) ≡ record { entry = entry o k; commands = o .channel .commands } ∷ toldFrom (transition o k) ks
+    → toldFrom o (k ∷ ks) ≡ toldAt o k ∷ toldFrom (transition o k) ks
 unfolding told
 told-next o k ks p =
-    let t : Told = record { entry = entry o k; commands = o .channel .commands } in
+    let t = toldAt o k in
     ap (λ (f : CommandFrames). t ∷ told f (history (transition o k) ks)) (sym (commands-step o k p))
 
 -- ---- From an opening

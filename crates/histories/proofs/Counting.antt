@@ -11,6 +11,7 @@ use Rattle.channel_core.specs.State as state
 use Rattle.channel.specs.OneChannel.{ChannelCall, OneChannel, oneChannel, transition, transitions}
 use Rattle.histories.specs.History.{entry, endsGroup, resets, Told, told, sendsSetpoint, sendsSince}
 use Rattle.histories.specs.Counting.{mostCounted, CountsSends}
+use Rattle.histories.proofs.Buffered.{toldAt}
 use Rattle.histories.proofs.Calls.{steps}
 use Rattle.histories.proofs.Ranges.{Ordered, ordered-opened, ordered-step}
 use Rattle.histories.proofs.Commands.{toldFrom, told-next}
@@ -29,7 +30,7 @@ unfolding sendsSince told
 counts-sends-from o [] j g h = h
 counts-sends-from o (k ∷ ks) j g h =
     let e = entry o k in
-    let t : Told = record { entry = e; commands = o .channel .commands } in
+    let t = toldAt o k in
     let next : ℕ = cond (endsGroup e || resets e) 0 (cond (sendsSetpoint t) (j + 1) j) in
     counts-sends-from (transition o k) ks next (ordered-step o k g)
     (steps o k (g .apart) .count-step ∙ counted-more (endsGroup e || resets e) (sendsSetpoint t) (o .channel .sequencer .count) j h)

@@ -15,11 +15,11 @@ use Rattle.register_map.specs.AccessRule.{channelAccess}
 use Rattle.registers.specs.Map.{readbackPlace, loaded}
 use Rattle.readback.specs.declared.Readbacks.{Readbacks}
 use Rattle.readback.specs.Storing.{placeOf}
+use Rattle.readback.specs.Storing as rb
 use Rattle.readback.proofs.Laws.{end-after-stored}
 use Rattle.command_frames.specs.declared.CommandFrames.{CommandFrames}
 use Rattle.channel_core.specs.State as state
 use Rattle.channel_core.specs.Answers.{partLength}
-use Rattle.channel_core.specs.Behaviour.{groupEnded}
 use Rattle.channel_registers.specs.Calls.{registerRefusal, readValue}
 use Rattle.channel.specs.OneChannel.{ChannelCall, OneChannel, oneChannel, refusalOf, answer, transition, response, transitions}
 use Rattle.channel.proofs.Cases.{clash}
@@ -29,11 +29,9 @@ use Rattle.histories.specs.Statuses.{ReadsBit}
 use Rattle.histories.specs.Ranges.{ChannelInRange}
 use Rattle.histories.specs.EndWords.{secondActiveAfter, secondActiveSince, secondActiveOver, ActiveTold, wordWrittenBy, withWritten, WordsTold, InactiveUnchanged, GroupEndAccepted, groupRetiredAfter, groupRetiredSince, EndWordStands, StaysRetired, EndWordStays}
 use Rattle.histories.proofs.Depths.{depths-step, depths-kept}
-use Rattle.histories.proofs.Writes.{nextPlace, words-step}
+use Rattle.histories.proofs.Buffered.{toldAt, activeIn, nextPlace, grown, buffered-step}
 use Rattle.histories.proofs.Parts.{opened-range}
 use Rattle.histories.proofs.Ranges.{stays, channel-step, channel-from, Ordered, ordered-opened, ordered-step}
-use Rattle.histories.proofs.Ended.{ended-step}
-use Rattle.histories.proofs.Active.{activeIn, same-active, group-active, active-step}
 use Rattle.histories.proofs.Commands.{toldFrom, told-next, commands-told}
 use Rattle.histories.proofs.Holding.{HoldsIn, holds-opened}
 use Rattle.histories.proofs.Keeping.{holds-step, holds-over, words-long, retires, retires-kept}
@@ -46,7 +44,7 @@ unfolding secondActiveSince
 active-from o [] r = refl
 active-from o (k ∷ ks) r =
     active-from (transition o k) ks (channel-step o k r)
-    ∙ ap (λ (b : Bool). secondActiveSince b (history (transition o k) ks)) (active-step o k (r .registers))
+    ∙ ap (λ (b : Bool). secondActiveSince b (history (transition o k) ks)) (buffered-step o k .active (r .registers))
 
 active-over : (n m : ℕ) (setpoints readbacks : List ℕ) (ks : List ChannelCall)
     → activeIn (transitions (oneChannel n m setpoints readbacks) ks .channel) ≡ secondActiveOver n m setpoints readbacks ks
@@ -73,7 +71,7 @@ words-told n m setpoints readbacks ks k =
     let o = transitions start ks in
     let by : Bool → ℕ → ℕ → CommandFrames → List ℕ =
     λ second depth count f. withWritten (o .readbacks) (placeOf second depth count) (wordWrittenBy (record { entry = entry o k; commands = f })) in
-    words-step o k
+    buffered-step o k .written
     ∙ ap (λ (b : Bool). by b (o .m) (o .channel .readbacks .stored) (o .channel .commands)) (active-over n m setpoints readbacks ks)
     ∙ ap (λ (x : ℕ). by (secondActiveOver n m setpoints readbacks ks) x (o .channel .readbacks .stored) (o .channel .commands)) (depths-kept start ks .1)
     ∙ ap (λ (x : ℕ). by (secondActiveOver n m setpoints readbacks ks) m x (o .channel .commands)) (holds-over n m setpoints readbacks ks .stored)
@@ -97,9 +95,9 @@ module _ (m : ℕ) (deep : 1 ≤ m) where
       → getD (transition o k .readbacks) (placeOf second m index) 0 ≡ getD (o .readbacks) (placeOf second m index) 0
   inactive-step o k second index d r a within =
       let stored = o .channel .readbacks .stored in
-      let words = wordWrittenBy (record { entry = entry o k; commands = o .channel .commands }) in
+      let words = wordWrittenBy (toldAt o k) in
       let same = ap (λ (b : Bool). placeOf b (o .m) stored) a ∙ ap (λ (x : ℕ). placeOf (not second) x stored) d in
-      ap (λ (s : List ℕ). getD s (placeOf second m index) 0) (words-step o k)
+      ap (λ (s : List ℕ). getD s (placeOf second m index) 0) (buffered-step o k .written)
       ∙ written-other (o .readbacks) words (nextPlace (o .channel) (o .m)) (placeOf second m index)
       (λ e. other-place second m index stored within (few-stored o d r) (e ∙ same))
 
@@ -121,10 +119,9 @@ module _ (m : ℕ) (deep : 1 ≤ m) (o : OneChannel) (k : ChannelCall) (d : o .m
     end-word : getD (transition o k .readbacks) (placeOf (activeIn (o .channel)) m (o .channel .readbacks .stored)) 0 ≡ 0x2000000
     end-word =
         let place = nextPlace (o .channel) (o .m) in
-        let t : Told = record { entry = entry o k; commands = o .channel .commands } in
         ap (λ (x : ℕ). getD (transition o k .readbacks) (placeOf (activeIn (o .channel)) x (o .channel .readbacks .stored)) 0) (sym d)
         ∙ ap (λ (s : List ℕ). getD s place 0)
-        (words-step o k ∙ ap (λ (b : Bool). withWritten (o .readbacks) place (cond b (0x2000000 ∷ []) (storedBy t))) ends)
+        (buffered-step o k .written ∙ ap (λ (b : Bool). withWritten (o .readbacks) place (cond b (0x2000000 ∷ []) (storedBy (toldAt o k)))) ends)
         ∙ end-after-stored (o .channel .readbacks) (o .readbacks) (activeIn (o .channel)) (o .m) (omega (arith, d, deep)) (omega (arith, d, long))
         (r .readbacks .stored)
 
@@ -137,16 +134,13 @@ module _ (m : ℕ) (deep : 1 ≤ m) where
 
   behind-step : (o : OneChannel) (k : ChannelCall) (g : Kept) (retired : Bool) → o .m ≡ m → length (o .readbacks) ≡ m * 2
       → ChannelInRange (o .m) (o .channel) → HoldsIn o g → (retired ≡ true → Behind o g)
-      → groupRetiredAfter retired (entry o k) ≡ true → Behind (transition o k) (keptAfter g (record { entry = entry o k; commands = o .channel .commands }))
+      → groupRetiredAfter retired (entry o k) ≡ true → Behind (transition o k) (keptAfter g (toldAt o k))
   behind-step o k g retired d long r h behind = go (resets (entry o k)) (endsGroup (entry o k)) refl refl
     where
-      t : Told
-      t = record { entry = entry o k; commands = o .channel .commands }
-
       active : (again ends : Bool) → resets (entry o k) ≡ again → endsGroup (entry o k) ≡ ends
           → activeIn (transition o k .channel) ≡ cond again false (cond ends (not (activeIn (o .channel))) (activeIn (o .channel)))
       active again ends p q =
-          active-step o k (r .registers)
+          buffered-step o k .active (r .registers)
           ∙ ap₂ (λ (x y : Bool). cond x false (cond y (not (activeIn (o .channel))) (activeIn (o .channel)))) p q
 
       -- the places by the channel's own counts
@@ -154,7 +148,7 @@ module _ (m : ℕ) (deep : 1 ≤ m) where
       by x second count = getD (x .readbacks) (placeOf second m count) 0 ≡ 0x2000000
 
       go : (again ends : Bool) → resets (entry o k) ≡ again → endsGroup (entry o k) ≡ ends → cond again false (cond ends true retired) ≡ true
-          → Behind (transition o k) (cond again nothingKept (cond ends (switched g) (keptWith g (storedBy t))))
+          → Behind (transition o k) (cond again nothingKept (cond ends (switched g) (keptWith g (storedBy (toldAt o k)))))
       go true ends p q e = clash e
       go false true p q e =
           let second = ap not (active false true p q) ∙ Bool·not-not (activeIn (o .channel)) in
@@ -170,9 +164,8 @@ module _ (m : ℕ) (deep : 1 ≤ m) where
   unfolding groupRetiredSince keptSince told
   behind-from o [] g retired d long a r h behind e = behind e
   behind-from o (k ∷ ks) g retired d long a r h behind e =
-      let t : Told = record { entry = entry o k; commands = o .channel .commands } in
       subst (λ (ts : List Told). Behind (transitions (transition o k) ks) (keptSince g ts)) (sym (told-next o k ks (a .apart)))
-      (behind-from (transition o k) ks (keptAfter g t) (groupRetiredAfter retired (entry o k)) (depths-step o k .1 ∙ d)
+      (behind-from (transition o k) ks (keptAfter g (toldAt o k)) (groupRetiredAfter retired (entry o k)) (depths-step o k .1 ∙ d)
       (stays o k .readback-words ∙ long) (ordered-step o k a) (channel-step o k r) (holds-step g o k r h)
       (behind-step o k g retired d long r h behind) e)
 
@@ -201,13 +194,8 @@ retired-stays : (m : ℕ) (deep : 1 ≤ m) (second : Bool) (index : ℕ) → ind
 retired-stays m deep second index within o [] d r a s = refl
 retired-stays m deep second index within o (k ∷ ks) d r a s =
     retired-stays m deep second index within (transition o k) ks (depths-step o k .1 ∙ d) (channel-step o k r)
-    (active-step o k (r .registers) ∙ ap (λ (b : Bool). secondActiveAfter b (entry o k)) a ∙ s .0) (s .1)
+    (buffered-step o k .active (r .registers) ∙ ap (λ (b : Bool). secondActiveAfter b (entry o k)) a ∙ s .0) (s .1)
     ∙ inactive-step m deep o k second index d r a within
-
-retired-count : (o x : OneChannel) → x .channel .readbacks ≡ groupEnded (o .channel) .readbacks
-    → x .channel .readbacks .retired ≡ o .channel .readbacks .stored
-unfolding groupEnded
-retired-count o x e = ap (λ (r : Readbacks). r .retired) e
 
 pub end-word-stays : EndWordStays
 end-word-stays n m setpoints readbacks deep long before groupEnd later ends retired =
@@ -222,8 +210,13 @@ end-word-stays n m setpoints readbacks deep long before groupEnd later ends reti
     let few : length (g .current) < m = omega (arith, sym (h .stored), few-stored m deep o d r) in
     let full = words-long start before ∙ long in
     let d' = depths-step o groupEnd .1 ∙ d in
-    let e = ended-step o groupEnd ends in
-    let switched = same-active (e .leaves) ∙ group-active (o .channel) (r .registers) ∙ ap not a in
+    let b = buffered-step o groupEnd in
+    let old = o .channel .readbacks in
+    let words = storedBy (toldAt o groupEnd) in
+    let switched =
+    b .active (r .registers) ∙ ap₂ (λ (x y : Bool). cond x false (cond y (not (activeIn (o .channel))) (activeIn (o .channel)))) (b .once ends) ends
+    ∙ ap not a in
+    let counts = b .counts ∙ ap₂ (λ (x y : Bool). cond x rb.opened (cond y (rb.groupEnded old) (grown old words))) (b .once ends) ends in
     let kept = holds-step g o groupEnd r h in
     record {
       second = second;
@@ -231,7 +224,7 @@ end-word-stays n m setpoints readbacks deep long before groupEnd later ends reti
       count = length (g .current);
       counted =
           retires (transition o groupEnd) m _ d' (stays o groupEnd .readback-words ∙ full) (channel-step o groupEnd r) kept .1
-          ∙ ap partLength (sym (kept .retired) ∙ retired-count o (transition o groupEnd) (e .leaves .readbacks) ∙ h .stored);
+          ∙ ap partLength (sym (kept .retired) ∙ ap (λ (c : Readbacks). c .retired) counts ∙ h .stored);
       within = few;
       word =
           retired-stays m deep second (length (g .current)) few (transition o groupEnd) later d' (channel-step o groupEnd r) switched retired

@@ -2,7 +2,7 @@ pub mod Cases
 pub mod Accepted
 pub mod Refusing
 pub mod Depths
-pub mod Writes
+pub mod Buffered
 pub mod Lengths
 pub mod Keeps
 pub mod Leaves
@@ -20,7 +20,6 @@ pub mod Windows
 pub mod Flags
 pub mod Missing
 pub mod Statuses
-pub mod Active
 pub mod Buffers
 pub mod Holding
 pub mod Keeping

@@ -23,12 +23,13 @@ use Rattle.channel_core.specs.Behaviour.{conditionStatus, sendStatus, condition
 use Rattle.channel_core.specs.State as state
 use Rattle.channel_registers.specs.Calls.{readValue}
 use Rattle.channel.specs.OneChannel.{ChannelCall, OneChannel, oneChannel, refusalOf, effect, answer, transition, response, transitions, readRegister, tick}
-use Rattle.histories.specs.History.{entry, Told, told, sendsSetpoint}
+use Rattle.histories.specs.History.{told, sendsSetpoint}
 use Rattle.histories.specs.Windows.{Window}
 use Rattle.histories.specs.Ranges.{ChannelInRange}
 use Rattle.histories.specs.Statuses.{ReadsBit}
 use Rattle.histories.specs.Missing.{shortfallOf, shortfallBy, clears, shortfallsSince, shortfallsOver, isEmpty, missingCount, CountsMissing, LatchesShortfalls, tickTold, tickFinds, tickCondition, TickLatches, MainBits, RaisesMain}
 use Rattle.histories.proofs.Ticks.{sendWindow, windowOf}
+use Rattle.histories.proofs.Buffered.{toldAt}
 use Rattle.histories.proofs.Calls.{steps}
 use Rattle.histories.proofs.Accepted.{tick-accepted}
 use Rattle.histories.proofs.Apart.{apart-nothing}
@@ -42,10 +43,6 @@ use Rattle.histories.proofs.Steps.{line-sends}
 use Rattle.histories.proofs.Flags.{copyOf, offsetOf, flagIn, flag-step}
 
 -- ---- Along a list of calls
-
--- a call at a state, with what is told before it
-abbrev toldAt : OneChannel → ChannelCall → Told
-toldAt o k = record { entry = entry o k; commands = o .channel .commands }
 
 module _ (offset : ℕ) where
   -- the shortfalls since the register was cleared, one call later

@@ -6,11 +6,12 @@ use native.Mathlib.Omega.{arith}
 use Rattle.command_frames.specs.declared.CommandFrames.{CommandFrames}
 use Rattle.channel_core.specs.State as state
 use Rattle.channel.specs.OneChannel.{oneChannel, ChannelCall, OneChannel, transition, transitions}
-use Rattle.histories.specs.History.{entry, Told, told, toldOf}
+use Rattle.histories.specs.History.{told, toldOf}
 use Rattle.histories.specs.Windows.{Window, closed, windowAfter, windowSince}
 use Rattle.histories.specs.Commands.{NoSetpointMeanwhile}
 use Rattle.histories.specs.Replying.{WindowHeld}
 use Rattle.histories.specs.Ranges.{ChannelInRange}
+use Rattle.histories.proofs.Buffered.{toldAt}
 use Rattle.histories.proofs.Ticks.{windowOf}
 use Rattle.histories.proofs.Parts.{opened-range}
 use Rattle.histories.proofs.Calls.{steps}
@@ -23,7 +24,7 @@ window-from : (o : OneChannel) (ks : List ChannelCall) (w : Window) → Ordered 
 unfolding windowSince told
 window-from o [] w g r h = h
 window-from o (k ∷ ks) w g r h =
-    let t : Told = record { entry = entry o k; commands = o .channel .commands } in
+    let t = toldAt o k in
     window-from (transition o k) ks (windowAfter w t) (ordered-step o k g) (channel-step o k r)
     (steps o k (g .apart) .window-step (r .registers .id) ∙ ap (λ (x : Window). windowAfter x t) h)
     ∙ ap (windowSince w) (sym (told-next o k ks (g .apart)))

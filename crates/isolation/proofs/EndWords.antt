@@ -28,9 +28,9 @@ use Rattle.isolation.specs.Calls.{query, first, second, Item, answer, ow
 use Rattle.isolation.specs.Feeding.{feeds, fed, view}
 use Rattle.isolation.specs.Isolation.{oneChannelAt, EndWord, EndWordStands, EndWordStays, groupEndOf, groupEndTo, GroupEndAccepted}
 use Rattle.isolation.proofs.Parts.{Number, own-length}
-use Rattle.isolation.proofs.Worlds.{Good}
+use Rattle.isolation.proofs.Worlds.{Good, parted-reads}
 use Rattle.isolation.proofs.Observing.{observe-query}
-use Rattle.isolation.proofs.Isolation.{isolation, along, good-step, good-opening, open-fits}
+use Rattle.isolation.proofs.Isolation.{isolation, along, good-step, good-opening, open-fits, open-own}
 use Rattle.isolation.proofs.Shown.{register-shown}
 
 -- ---- A list cut in two
@@ -48,9 +48,6 @@ good-after w [] g a = g
 good-after w (i ∷ xs) g a = good-after (step w i) xs (good-step w g i (a .0)) (a .1)
 
 -- ---- A word of a channel's readback buffer, in the memory
-
-four : (m : ℕ) → m * 8 ≡ 4 * (m * 2)
-four m = omega arith
 
 place-start : (p m : ℕ) (b : Bool) (i : ℕ) → p * (m * 2) + placeOf b m i ≡ (p * 2 + bitOf b) * m + i
 place-start p m b i = go b (add-mul (p * 2) (bitOf b) m) (mul-assoc p 2 m ∙ ap (λ (x : ℕ). p * x) (mul-comm 2 m))
@@ -78,7 +75,7 @@ halves k l e = (simp length-take (omega arith), simp (length-take, length-drop) 
 buffers-long : (w : World) (c : ℕ) → Number c → Good w
     → (length (first (ownBuffers w c)) ≡ w .board .m) × (length (second (ownBuffers w c)) ≡ w .board .m)
 buffers-long w c h g =
-    halves (w .board .m) (own (w .readbacks) (w .board .m * 2) c) (own-length (w .readbacks) (w .board .m * 2) (g .reads ∙ four (w .board .m)) c h)
+    halves (w .board .m) (own (w .readbacks) (w .board .m * 2) c) (own-length (w .readbacks) (w .board .m * 2) (g .reads ∙ parted-reads (w .board)) c h)
 
 -- what the twin of retired readbacks answers, lent them
 counted-alone : (w : World) (c m : ℕ) → Number c → Good w → w .board .m ≡ m
@@ -127,7 +124,7 @@ end-word-stands n m s r opens c low high xs a retired =
     let e : view c w ≡ o = isolation n m s r opens c low high xs a .ends in
     let d = depths-kept start (fed c xs) .1 in
     found-alone c m h w w o o (good-after (opening n m s r) xs (good-opening n m s r opens) a) e e d d
-    (stands-alone n m (own s (n * 16) c) (own r (m * 2) c) (f .1) (own-length r (m * 2) (f .3 ∙ four m) c h) (fed c xs) retired)
+    (stands-alone n m (own s (n * 16) c) (own r (m * 2) c) (f .1) (open-own n m s r opens c h .1) (fed c xs) retired)
 
 -- ---- A Group End, and what comes after it
 
@@ -178,7 +175,7 @@ module _
         found-alone c m h (step w groupEnd) (worldAfter (opening n m s r) (before ++ (groupEnd ∷ later))) (transition o k)
         (transitions (transition o k) (fed c later)) (good-step w good groupEnd (cut .1 .0)) view-ended view-later d
         (depths-kept (transition o k) (fed c later) .1 ∙ d)
-        (stays-alone n m (own s (n * 16) c) (own r (m * 2) c) (f .1) (own-length r (m * 2) (f .3 ∙ four m) c h) (fed c before) k (fed c later)
+        (stays-alone n m (own s (n * 16) c) (own r (m * 2) c) (f .1) (open-own n m s r opens c h .1) (fed c before) k (fed c later)
         (subst (λ (x : OneChannel). endsGroup (entry x k) ≡ true) view-before ends)
         (subst (λ (x : OneChannel). StaysRetired second-retires (history x (fed c later))) view-ended retired))
 

@@ -16,14 +16,15 @@ use Rattle.channel.proofs.Ranges.{inside}
 use Rattle.channel.specs.OneChannel.{OneChannel, oneChannel, withChannel, transitions, responses}
 use Rattle.board_state.specs.declared.Board.{Board}
 use Rattle.board_state.specs.State as state
+use Rattle.board_state.specs.Parts.{own}
 use Rattle.board.specs.Calls.{openRefusal, openAnswer, openBoard}
 use Rattle.board.specs.Worlds.{World, world}
 use Rattle.isolation.specs.Calls.{Item, refused, given, step, Fits, Allowed, opening}
 use Rattle.isolation.specs.Feeding.{feeds, fed, view}
 use Rattle.isolation.specs.Isolation.{oneChannelAt, MatchesOneChannel, Isolation, FedTheSame}
-use Rattle.isolation.proofs.Parts.{Number}
+use Rattle.isolation.proofs.Parts.{Number, own-length}
 use Rattle.isolation.proofs.One.{transitions-append, responses-append}
-use Rattle.isolation.proofs.Worlds.{Good, either, step-refused, step-given}
+use Rattle.isolation.proofs.Worlds.{Good, either, step-refused, step-given, parted-sets, parted-reads}
 use Rattle.isolation.proofs.Shapes.{good-plain}
 use Rattle.isolation.proofs.Items.{Holds, item}
 
@@ -83,6 +84,14 @@ module _ (n m : ℕ) (s r : List ℕ) (e : openAnswer n m (length s) (length r) 
       let d = let-on _ _ _ refl (b .1) in
       let f = let-on _ _ _ refl (d .1) in
       (inside 1 1048576 n (a .0) .0, inside 1 8388608 m (b .0) .0, eqb-true _ _ (d .0), eqb-true _ _ (f .0))
+
+  -- the words of channel c
+  pub open-own : (c : ℕ) → Number c → (length (own s (n * 16) c) ≡ n * 16) × (length (own r (m * 2) c) ≡ m * 2)
+  unfolding state.opened
+  open-own c h = (
+    own-length s (n * 16) (open-fits .2 ∙ parted-sets (state.opened n m)) c h,
+    own-length r (m * 2) (open-fits .3 ∙ parted-reads (state.opened n m)) c h,
+  )
 
   open-world : opening n m s r ≡ world (state.opened n m) s r
   open-world = ap (λ (b : Board). world b s r) opened
