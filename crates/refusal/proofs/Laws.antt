@@ -17,3 +17,4 @@ refuses refusal.FramingError = refl
 refuses refusal.BadTrailer = refl
 refuses refusal.BadRecord = refl
 refuses refusal.FunctionActive = refl
+refuses refusal.InvalidRamp = refl

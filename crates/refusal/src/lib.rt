@@ -24,6 +24,8 @@ pub enum Refusal {
     BadRecord,
     // function on
     FunctionActive,
+    // bad ramp
+    InvalidRamp,
 }
 
 // Whether a call is refused, and by which refusal.
@@ -46,5 +48,6 @@ pub fn number(refusal: Refusal) -> u8
         Refusal::BadTrailer => 8,
         Refusal::BadRecord => 9,
         Refusal::FunctionActive => 10,
+        Refusal::InvalidRamp => 11,
     }
 }

@@ -1,0 +1,130 @@
+-- The loop of `fill`: what holds at its head, and what a turn makes of it. Assumes nothing.
+use mathlib.Core.Path.{_≡_, refl, sym, ap, subst, _∙_}
+use Prim.Native.Nat.{ℕ, zero, suc, _+_, _-_, _≤_, _<_}
+use native.Mathlib.Numerals.{add-one}
+use native.Mathlib.Omega.{arith}
+use mathlib.Core.Bool.{cond}
+use mathlib.Core.List.{List}
+use lib.Dec.{ltb, eqb}
+use lib.ListN.{length, getD, set}
+use lib.Seq.{getD-take}
+use Rattle.ramp.specs.declared.Breakpoint.{Breakpoint}
+use Rattle.ramp.specs.declared.Breakpoints.{Breakpoints}
+use Rattle.ramp.specs.Interpolation.{twosComplement}
+use Rattle.ramp.specs.Ramp.{none, Segment, segment, segmentOf, codeIn, remainderIn, indexAt, lastIndex, codeWord, remainderWord, overwritten}
+use Rattle.ramp.specs.Rules.{Rules}
+use Rattle.ramp.specs.Copying.{listed, Whole, Near}
+use Rattle.ramp.proofs.Words.{overwritten-length}
+use Rattle.ramp.proofs.Segments.{InSegment, Reached, found-next, reached-next, near-of, segment-at}
+use Rattle.ramp.proofs.Copies.{size-take, index-take, last-take}
+
+-- what holds whenever the loop's test is reached: all before i are written
+pub record Going (ps : List Breakpoint) (cs ds cs′ ds′ : List ℕ) (k i : ℕ) : Type 0 where
+  pub reached : Reached ps k i
+  pub far : i ≤ lastIndex ps + 1
+  pub codes : cs′ ≡ overwritten (codeWord ps) i cs
+  pub remainders : ds′ ≡ overwritten (remainderWord ps) i ds
+
+module _ (l : Breakpoints) (cs ds : List ℕ) (whole : Whole l) (n : ℕ) (rules : Rules (listed l) n (length cs) (length ds)) where
+  abbrev xs : List Breakpoint
+  xs = l .points
+
+  abbrev ps : List Breakpoint
+  ps = listed l
+
+  abbrev last : ℕ
+  last = indexAt xs (l .count - 1)
+
+  size : length ps ≡ l .count
+  size = size-take xs (l .count) (whole .whole) (whole .few)
+
+  pub many : 2 ≤ l .count
+  many = let h = rules .at-least in let e = size in omega arith
+
+  last-is : lastIndex ps ≡ last
+  last-is = let h = many in last-take xs (l .count) (whole .whole) (whole .few) (omega arith)
+
+  pub begin : Going ps cs ds cs ds 0 0
+  unfolding overwritten
+  begin =
+      let h = rules .at-least in
+      record { reached = record { more = omega arith; past = λ j a b. absurd (omega arith); end = omega arith }; far = omega arith; codes = refl; remainders = refl }
+
+  module _ (cs′ ds′ : List ℕ) (k i : ℕ) (g : Going ps cs ds cs′ ds′ k i) where
+    pub k-small : k + 1 < 64
+    k-small = let h = g .reached .more in let f = rules .at-most in omega arith
+
+    pub ends : last < i → i ≡ lastIndex ps + 1
+    ends h = let f = g .far in let e = last-is in omega arith
+
+    pub in-codes : i ≤ last → i < length cs′
+    in-codes h =
+        let b = rules .last in
+        let c = rules .codes in
+        let e = last-is in
+        let m = ap length (g .codes) ∙ overwritten-length (codeWord ps) cs i in
+        omega arith
+
+    pub in-remainders : i ≤ last → i < length ds′
+    in-remainders h =
+        let b = rules .last in
+        let d = rules .remainders in
+        let e = last-is in
+        let m = ap length (g .remainders) ∙ overwritten-length (remainderWord ps) ds i in
+        omega arith
+
+    module _ (h : i ≤ last) (r : ℕ) (e : r ≡ cond (ltb (indexAt xs (k + 1)) i) (k + 1) k) where
+      found : InSegment ps r i
+      found =
+          let m = g .reached .more in
+          let z = size in
+          let f = last-is in
+          subst (λ (j : ℕ). InSegment ps j i) (ap (λ (j : ℕ). cond (ltb j i) (k + 1) k) (index-take xs (l .count) (k + 1) (omega arith)) ∙ sym e)
+          (found-next ps n (length cs) (length ds) rules k i (g .reached) (omega arith))
+
+      pub r-small : r + 1 < 64
+      r-small = let m = found .more in let f = rules .at-most in omega arith
+
+      in-count : r + 1 < l .count
+      in-count = let m = found .more in let z = size in omega arith
+
+      -- the neighbours, in the array and in the list
+      from-is : getD ps r none ≡ getD xs r none
+      from-is = let m = in-count in getD-take (l .count) xs r none (omega arith)
+
+      to-is : getD ps (r + 1) none ≡ getD xs (r + 1) none
+      to-is = getD-take (l .count) xs (r + 1) none in-count
+
+      abbrev here : Segment
+      here = segment (getD xs r none) (getD xs (r + 1) none)
+
+      here-is : segmentOf ps i ≡ here
+      here-is =
+          segment-at ps r i found ∙ ap (λ (p : Breakpoint). segment p (getD ps (r + 1) none)) from-is
+          ∙ ap (λ (p : Breakpoint). segment (getD xs r none) p) to-is
+
+      pub near : Near (indexAt xs r) (indexAt xs (r + 1)) i
+      near =
+          subst (λ (p : Breakpoint). Near (p .index) (indexAt xs (r + 1)) i) from-is
+          (subst (λ (p : Breakpoint). Near (indexAt ps r) (p .index) i) to-is (near-of ps n (length cs) (length ds) rules r i found))
+
+      pub next :
+          (code remainder word : ℕ) → code ≡ twosComplement (codeIn here i) → remainder ≡ remainderIn here i → word ≡ code + cond (eqb i last) 0x80000000 0
+          → Going ps cs ds (set cs′ i word) (set ds′ i remainder) r (i + 1)
+      unfolding codeWord remainderWord overwritten
+      next code remainder word c d w =
+          let f = last-is in
+          record {
+            reached = reached-next ps n (length cs) (length ds) rules r i found;
+            far = omega arith;
+            codes = one-more (codeWord ps) cs cs′ word (g .codes) (w ∙ word-is);
+            remainders = one-more (remainderWord ps) ds ds′ remainder (g .remainders) (d ∙ ap (λ (s : Segment). remainderIn s i) (sym here-is));
+          }
+        where
+          word-is : code + cond (eqb i last) 0x80000000 0 ≡ codeWord ps i
+          word-is =
+              ap (λ (b : ℕ). b + cond (eqb i last) 0x80000000 0) (c ∙ ap (λ (s : Segment). twosComplement (codeIn s i)) (sym here-is))
+              ∙ ap (λ (j : ℕ). twosComplement (codeIn (segmentOf ps i) i) + cond (eqb i j) 0x80000000 0) (sym last-is)
+
+          one-more : (f : ℕ → ℕ) (old now : List ℕ) (v : ℕ) → now ≡ overwritten f i old → v ≡ f i → set now i v ≡ overwritten f (i + 1) old
+          one-more f old now v a b = ap (λ (m : List ℕ). set m i v) a ∙ ap (set (overwritten f i old) i) b ∙ ap (λ (j : ℕ). overwritten f j old) (sym (add-one i))

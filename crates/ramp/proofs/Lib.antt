@@ -1,0 +1,11 @@
+pub mod Tests
+pub mod Signs
+pub mod Rounding
+pub mod Rising
+pub mod Validity
+pub mod Segments
+pub mod Copies
+pub mod Words
+pub mod Filling
+pub mod Call
+pub mod Front

@@ -1,0 +1,93 @@
+-- Rounding down, over the natural numbers. In offset binary, s = u − 32768 and t = v − 32768, the code at d of w steps from s to t is the whole part of the
+-- weighted mean (u * (w − d) + v * d) / w, and the remainder is what that division leaves. Assumes nothing.
+use mathlib.Core.Path.{_≡_, refl, sym, ap, _∙_}
+use Prim.Native.Nat.{ℕ, zero, suc, _+_, _-_, _*_, _/_, _%_, _≤_, _<_}
+use native.Mathlib.Nat.{add-mul, mul-add, mod-lt, mod-eq-of-lt, div-add-mod', div-eq-of-lt-le, mul-add-mod-self-right, mul-le-mul-right, lt-of-mul-lt-mul-right, div-lt-iff-lt-mul}
+use native.Mathlib.Omega.{arith}
+use lib.IntN.{ℤ, pos, negsuc, _+ℤ_, _-ℤ_, _*ℤ_}
+use mir.Syntax.{w16}
+use mir.Val.{SFits}
+use Rattle.ramp.specs.Interpolation.{floorDiv, floorMod, twosComplement}
+use Rattle.ramp.proofs.Signs.{Diff, diff-add, diff-sub, diff-mul, diff-same, diff-to}
+
+-- the quotient and the remainder are the only ones
+pub only : (n q r w : ℕ) → n ≡ q * w + r → r < w → (n / w ≡ q) × (n % w ≡ r)
+only n q r w e l = (
+  div-eq-of-lt-le w (omega arith) (let h : (q + 1) * w ≡ q * w + 1 * w = add-mul q 1 w in omega arith),
+  ap (λ (k : ℕ). k % w) e ∙ mul-add-mod-self-right q w r ∙ mod-eq-of-lt l,
+)
+
+-- m − u * w, divided by w
+pub floorDiv-of : (x : ℤ) (w m u : ℕ) → 0 < w → Diff x m (u * w) → Diff (floorDiv x w) (m / w) u × (floorMod x w ≡ m % w)
+unfolding floorDiv floorMod
+floorDiv-of (pos a) w m u W h =
+    let k = div-add-mod' a w in
+    let s : (u + a / w) * w ≡ u * w + a / w * w = add-mul u (a / w) w in
+    let o = only m (u + a / w) (a % w) w (omega arith) (mod-lt a W) in
+    let e = o .0 in
+    (omega arith, sym (o .1))
+floorDiv-of (negsuc a) w m u W h =
+    let k = div-add-mod' a w in
+    let r = mod-lt a W in
+    let big : a / w < u = lt-of-mul-lt-mul-right w (omega arith) in
+    let s : u * w ≡ (u - suc (a / w)) * w + (a / w) * w + w = whole big in
+    let o = only m (u - suc (a / w)) (w - suc (a % w)) w (omega arith) (omega arith) in
+    let e = o .0 in
+    (omega arith, sym (o .1))
+  where
+    whole : a / w < u → u * w ≡ (u - suc (a / w)) * w + (a / w) * w + w
+    whole l =
+        let q = u - suc (a / w) in
+        let e : u ≡ q + (a / w) + 1 = omega arith in
+        let f : (q + (a / w) + 1) * w ≡ (q + a / w) * w + 1 * w = add-mul (q + a / w) 1 w in
+        let g : (q + a / w) * w ≡ q * w + (a / w) * w = add-mul q (a / w) w in
+        let h : u * w ≡ (q + (a / w) + 1) * w = ap (λ (x : ℕ). x * w) e in
+        omega arith
+
+-- ---- The mean
+module _ (u v d w : ℕ) (D : d ≤ w) where
+  abbrev pub mean : ℕ
+  mean = u * (w - d) + v * d
+
+  whole-width : (k : ℕ) → k * w ≡ k * (w - d) + k * d
+  whole-width k = let e : w ≡ (w - d) + d = omega arith in ap (λ (x : ℕ). k * x) e ∙ mul-add k (w - d) d
+
+  pub mean-bound : u < 65536 → v < 65536 → mean ≤ 65535 * w
+  mean-bound hu hv =
+      let a : u * (w - d) ≤ 65535 * (w - d) = mul-le-mul-right (w - d) (omega arith) in
+      let b : v * d ≤ 65535 * d = mul-le-mul-right d (omega arith) in
+      let e = whole-width 65535 in
+      omega arith
+
+  pub mean-small : 0 < w → u < 65536 → v < 65536 → mean / w < 65536
+  mean-small W hu hv = div-lt-iff-lt-mul W .1 (let h = mean-bound hu hv in omega arith)
+
+  pub mean-fits : u < 65536 → v < 65536 → w ≤ 1048576 → (u * (w - d) < 18446744073709551616) × (v * d < 18446744073709551616) × (mean < 18446744073709551616)
+  mean-fits hu hv hw = let h = mean-bound hu hv in (omega arith, omega arith, omega arith)
+
+  pub mean-of : (s t : ℤ) → 0 < w → Diff s u 32768 → Diff t v 32768
+      → Diff (s +ℤ floorDiv ((t -ℤ s) *ℤ pos d) w) (mean / w) 32768 × (floorMod ((t -ℤ s) *ℤ pos d) w ≡ mean % w)
+  mean-of s t W hs ht =
+      let x = (t -ℤ s) *ℤ pos d in
+      let e₁ : (v + 32768) * d ≡ v * d + 32768 * d = add-mul v 32768 d in
+      let e₂ : (32768 + u) * d ≡ 32768 * d + u * d = add-mul 32768 u d in
+      let e₃ = whole-width u in
+      let f = floorDiv-of x w mean u W (diff-to x ((v + 32768) * d) ((32768 + u) * d) mean (u * w) (diff-mul (t -ℤ s) d (v + 32768) (32768 + u) (diff-sub t s v 32768 u 32768 ht hs)) (omega arith)) in
+      (diff-to (s +ℤ floorDiv x w) (u + mean / w) (32768 + u) (mean / w) 32768 (diff-add s (floorDiv x w) u 32768 (mean / w) u hs (f .0)) (omega arith), f .1)
+
+-- ---- A code in offset binary
+
+pub offset-of : (z : ℤ) → SFits w16 z → (r : ℕ) × Diff z r 32768 × (r < 65536)
+offset-of (pos n) f = let h : n < 32768 = f .sfits in (n + 32768, omega arith, omega arith)
+offset-of (negsuc n) f = let h : n < 32768 = f .sfits in (32768 - suc n, omega arith, omega arith)
+
+-- its 16 bits
+pub bits-low : (z : ℤ) (c : ℕ) → Diff z c 32768 → c < 32768 → twosComplement z ≡ c + 32768
+unfolding twosComplement
+bits-low (pos n) c h l = absurd (omega arith)
+bits-low (negsuc n) c h l = omega arith
+
+pub bits-high : (z : ℤ) (c : ℕ) → Diff z c 32768 → 32768 ≤ c → twosComplement z ≡ c - 32768
+unfolding twosComplement
+bits-high (pos n) c h l = omega arith
+bits-high (negsuc n) c h l = absurd (omega arith)

@@ -1,0 +1,121 @@
+-- Which two neighbours an index stands between, as the loop finds them. Assumes nothing.
+use mathlib.Core.Path.{_≡_, refl, sym, ap, subst, _∙_}
+use Prim.Native.Nat.{ℕ, zero, suc, _+_, _-_, _≤_, _<_}
+use native.Mathlib.Nat.{eq-or-lt-of-le}
+use native.Mathlib.Numerals.{add-one}
+use native.Mathlib.Omega.{arith}
+use mathlib.Core.Bool.{Bool, true, false, not, cond}
+use mathlib.Core.Logic.{⊎-elim}
+use mathlib.Core.List.{List, [], _∷_}
+use lib.Dec.{T, ltb, ltb→lt, nltb→le}
+use lib.ListN.{length, getD}
+use borrow.Author.Tests.{le-leb, lt-leb}
+use Rattle.ramp.specs.declared.Breakpoint.{Breakpoint}
+use Rattle.ramp.specs.Ramp.{none, Segment, segment, segmentFrom, segmentOf, indexAt, lastIndex}
+use Rattle.ramp.specs.Rules.{Rules}
+use Rattle.ramp.specs.Copying.{Near}
+
+-- the neighbours k and k + 1
+abbrev pub neighbours : List Breakpoint → ℕ → Segment
+neighbours ps k = segment (getD ps k none) (getD ps (k + 1) none)
+
+-- i stands in segment k: past the breakpoints up to k, the first apart, and not past the next
+pub record InSegment (ps : List Breakpoint) (k i : ℕ) : Type 0 where
+  pub more : k + 1 < length ps
+  pub past : (j : ℕ) → 1 ≤ j → j ≤ k → indexAt ps j < i
+  pub end : i ≤ indexAt ps (k + 1)
+
+-- as the loop comes to i: it may be one past the next
+pub record Reached (ps : List Breakpoint) (k i : ℕ) : Type 0 where
+  pub more : k + 1 < length ps
+  pub past : (j : ℕ) → 1 ≤ j → j ≤ k → indexAt ps j < i
+  pub end : i ≤ indexAt ps (k + 1) + 1
+
+segment-from :
+    (a b : Breakpoint) (ps : List Breakpoint) (k i : ℕ) → suc k < length (a ∷ b ∷ ps) → ((j : ℕ) → 1 ≤ j → j ≤ k → indexAt (a ∷ b ∷ ps) j < i)
+    → i ≤ indexAt (a ∷ b ∷ ps) (suc k) → segmentFrom a b ps i ≡ segment (getD (a ∷ b ∷ ps) k none) (getD (b ∷ ps) k none)
+unfolding segmentFrom
+segment-from a b [] zero i m p e = refl
+segment-from a b [] (suc k) i m p e = absurd (omega arith)
+segment-from a b (c ∷ ps) zero i m p e = simp (le-leb _ _ e)
+segment-from a b (c ∷ ps) (suc k) i m p e =
+    simp (lt-leb i (b .index) (p 1 (omega arith) (omega arith)))
+    (segment-from b c ps k i (omega arith) (λ j g h. p (suc j) (omega arith) (omega arith)) e)
+
+pub segment-at : (ps : List Breakpoint) (k i : ℕ) → InSegment ps k i → segmentOf ps i ≡ neighbours ps k
+unfolding segmentOf
+segment-at [] k i s = let h = s .more in absurd (omega arith)
+segment-at (a ∷ []) k i s = let h = s .more in absurd (omega arith)
+segment-at (a ∷ b ∷ ps) k i s =
+    segment-from a b ps k i (let h = s .more in omega arith) (s .past) (subst (λ (n : ℕ). i ≤ indexAt (a ∷ b ∷ ps) n) (add-one k) (s .end))
+    ∙ ap (λ (n : ℕ). segment (getD (a ∷ b ∷ ps) k none) (getD (a ∷ b ∷ ps) n none)) (sym (add-one k))
+
+module _ (ps : List Breakpoint) (n c d : ℕ) (rules : Rules ps n c d) where
+  pub rise-at : (k : ℕ) → k + 1 < length ps → indexAt ps k < indexAt ps (k + 1)
+  rise-at k h = subst (λ (j : ℕ). indexAt ps k < indexAt ps j) (sym (add-one k)) (rules .rising k (omega arith))
+
+  -- a later index is no smaller, and none is past the last
+  climb : (k j : ℕ) → j + k < length ps → indexAt ps k ≤ indexAt ps (j + k)
+  climb k zero h = subst (λ (l : ℕ). indexAt ps k ≤ indexAt ps l) (let e : k ≡ 0 + k = omega arith in e) (omega arith)
+  climb k (suc j) h =
+      let a = climb k j (omega arith) in
+      let b = rise-at (j + k) (omega arith) in
+      subst (λ (l : ℕ). indexAt ps k ≤ indexAt ps l) (let e : j + k + 1 ≡ suc j + k = omega arith in e) (omega arith)
+
+  later : (j k : ℕ) → j ≤ k → k < length ps → indexAt ps j ≤ indexAt ps k
+  later j k h g = subst (λ (l : ℕ). indexAt ps j ≤ indexAt ps l) (let e : k - j + j ≡ k = omega arith in e) (climb j (k - j) (omega arith))
+
+  pub below-last : (k : ℕ) → k < length ps → indexAt ps k ≤ lastIndex ps
+  below-last k h = later k (length ps - 1) (omega arith) (omega arith)
+
+  -- ---- From an index to the next
+
+  pub found-next : (k i : ℕ) → Reached ps k i → i ≤ lastIndex ps → InSegment ps (cond (ltb (indexAt ps (k + 1)) i) (k + 1) k) i
+  found-next k i u l = go (ltb (indexAt ps (k + 1)) i) (ltb→lt (indexAt ps (k + 1)) i) (nltb→le (indexAt ps (k + 1)) i)
+    where
+      m : k + 1 < length ps
+      m = u .more
+
+      further : indexAt ps (k + 1) < i → k + 1 + 1 < length ps
+      further g = ⊎-elim
+          (λ (e : k + 1 + 1 ≡ length ps).
+          let f : k + 1 ≡ length ps - 1 = omega arith in
+          let h : indexAt ps (k + 1) ≡ lastIndex ps = ap (indexAt ps) f in
+          absurd (omega arith))
+          (λ (h : k + 1 + 1 < length ps). h)
+          (eq-or-lt-of-le (omega arith))
+
+      go : (b : Bool) → (T b → indexAt ps (k + 1) < i) → (T (not b) → i ≤ indexAt ps (k + 1)) → InSegment ps (cond b (k + 1) k) i
+      go true lt ge =
+          let g = lt tt in
+          let h = rise-at (k + 1) (further g) in
+          let e = u .end in
+          record {
+            more = further g;
+            past = λ j a b. ⊎-elim (λ (f : j ≡ k + 1). subst (λ (l : ℕ). indexAt ps l < i) (sym f) g) (λ (f : j < k + 1). u .past j a (omega arith)) (eq-or-lt-of-le b);
+            end = omega arith;
+          }
+      go false lt ge = record { more = m; past = u .past; end = ge tt }
+
+  pub reached-next : (k i : ℕ) → InSegment ps k i → Reached ps k (i + 1)
+  reached-next k i s = record { more = s .more; past = λ j a b. (let h = s .past j a b in omega arith); end = let h = s .end in omega arith }
+
+  pub near-of : (k i : ℕ) → InSegment ps k i → Near (indexAt ps k) (indexAt ps (k + 1)) i
+  near-of k i s =
+      let h = below-last (k + 1) (s .more) in
+      let l = rules .last in
+      let m = rules .depth-to in
+      record { after = start k (s .past); before = s .end; apart = rise-at k (s .more); small = omega arith }
+    where
+      start : (k : ℕ) → ((j : ℕ) → 1 ≤ j → j ≤ k → indexAt ps j < i) → indexAt ps k ≤ i
+      start zero p = let e = rules .first in omega arith
+      start (suc k) p = let h = p (suc k) (omega arith) (omega arith) in omega arith
+
+  -- ---- An index between two neighbours, or at one of them
+
+  -- past the first of them, or at the first of all
+  pub in-segment : (k i : ℕ) → k + 1 < length ps → indexAt ps k < i → i ≤ indexAt ps (k + 1) → InSegment ps k i
+  in-segment k i h g l = record { more = h; past = λ j a b. (let u = later j k b (omega arith) in omega arith); end = l }
+
+  pub in-first : (i : ℕ) → i ≤ indexAt ps 1 → InSegment ps 0 i
+  in-first i l = let m = rules .at-least in record { more = omega arith; past = λ j a b. absurd (omega arith); end = l }

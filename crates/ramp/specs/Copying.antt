@@ -1,0 +1,40 @@
+-- The list of breakpoints by value, as the code holds it, and what its private functions ask of it.
+use mathlib.Core.Path.{_≡_}
+use Prim.Native.Nat.{ℕ, zero, suc, _+_, _≤_, _<_}
+use mathlib.Core.Bool.{cond}
+use mathlib.Core.List.{List}
+use lib.Dec.{leb}
+use lib.ListN.{length, getD, set, take, replicate}
+use Rattle.ramp.specs.declared.Breakpoint.{Breakpoint}
+use Rattle.ramp.specs.declared.Breakpoints.{Breakpoints}
+use Rattle.ramp.specs.Ramp.{none}
+
+abbrev pub listed : Breakpoints → List Breakpoint
+listed l = take (l .count) (l .points)
+
+abbrev pub emptyList : Breakpoints
+emptyList = record { count = 0; points = replicate 64 none }
+
+abbrev pub appended : Breakpoints → Breakpoint → Breakpoints
+appended l p = record { count = l .count + 1; points = set (l .points) (l .count) p }
+
+-- the first k of a list
+unfoldable pub copied : List Breakpoint → ℕ → Breakpoints
+copied ps zero = emptyList
+copied ps (suc k) = appended (copied ps k) (getD ps k none)
+
+-- how many are copied: none of a list that is too long
+abbrev pub copyCount : ℕ → ℕ
+copyCount n = cond (leb n 64) n 0
+
+-- an array of 64, of which no more are meant
+pub record Whole (l : Breakpoints) : Type 0 where
+  pub few : l .count ≤ 64
+  pub whole : length (l .points) ≡ 64
+
+-- i stands between p and q, which differ
+pub record Near (p q i : ℕ) : Type 0 where
+  pub after : p ≤ i
+  pub before : i ≤ q
+  pub apart : p < q
+  pub small : q < 1048576

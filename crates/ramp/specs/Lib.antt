@@ -1,0 +1,5 @@
+pub mod Interpolation
+pub mod Ramp
+pub mod Rules
+pub mod Answers
+pub mod Copying
