@@ -9,3 +9,5 @@ pub mod Words
 pub mod Filling
 pub mod Call
 pub mod Front
+pub mod Exact
+pub mod Laws

@@ -2,7 +2,7 @@
 -- weighted mean (u * (w − d) + v * d) / w, and the remainder is what that division leaves. Assumes nothing.
 use mathlib.Core.Path.{_≡_, refl, sym, ap, _∙_}
 use Prim.Native.Nat.{ℕ, zero, suc, _+_, _-_, _*_, _/_, _%_, _≤_, _<_}
-use native.Mathlib.Nat.{add-mul, mul-add, mod-lt, mod-eq-of-lt, div-add-mod', div-eq-of-lt-le, mul-add-mod-self-right, mul-le-mul-right, lt-of-mul-lt-mul-right, div-lt-iff-lt-mul}
+use native.Mathlib.Nat.{add-mul, mul-add, mod-lt, mod-eq-of-lt, div-add-mod', div-eq-of-lt-le, mul-add-mod-self-right, mul-le-mul-right, lt-of-mul-lt-mul-right, div-lt-iff-lt-mul, le-div-iff-mul-le}
 use native.Mathlib.Omega.{arith}
 use lib.IntN.{ℤ, pos, negsuc, _+ℤ_, _-ℤ_, _*ℤ_}
 use mir.Syntax.{w16}
@@ -18,15 +18,15 @@ only n q r w e l = (
 )
 
 -- m − u * w, divided by w
-pub floorDiv-of : (x : ℤ) (w m u : ℕ) → 0 < w → Diff x m (u * w) → Diff (floorDiv x w) (m / w) u × (floorMod x w ≡ m % w)
+pub floor-of : (x : ℤ) (w m u : ℕ) → 0 < w → Diff x m (u * w) → Diff (floorDiv x w) (m / w) u × (floorMod x w ≡ m % w)
 unfolding floorDiv floorMod
-floorDiv-of (pos a) w m u W h =
+floor-of (pos a) w m u W h =
     let k = div-add-mod' a w in
     let s : (u + a / w) * w ≡ u * w + a / w * w = add-mul u (a / w) w in
     let o = only m (u + a / w) (a % w) w (omega arith) (mod-lt a W) in
     let e = o .0 in
     (omega arith, sym (o .1))
-floorDiv-of (negsuc a) w m u W h =
+floor-of (negsuc a) w m u W h =
     let k = div-add-mod' a w in
     let r = mod-lt a W in
     let big : a / w < u = lt-of-mul-lt-mul-right w (omega arith) in
@@ -52,18 +52,28 @@ module _ (u v d w : ℕ) (D : d ≤ w) where
   whole-width : (k : ℕ) → k * w ≡ k * (w - d) + k * d
   whole-width k = let e : w ≡ (w - d) + d = omega arith in ap (λ (x : ℕ). k * x) e ∙ mul-add k (w - d) d
 
-  pub mean-bound : u < 65536 → v < 65536 → mean ≤ 65535 * w
-  mean-bound hu hv =
-      let a : u * (w - d) ≤ 65535 * (w - d) = mul-le-mul-right (w - d) (omega arith) in
-      let b : v * d ≤ 65535 * d = mul-le-mul-right d (omega arith) in
-      let e = whole-width 65535 in
+  -- no lower than the lower of the two, no higher than the higher
+  mean-least : (k : ℕ) → k ≤ u → k ≤ v → k * w ≤ mean
+  mean-least k hu hv =
+      let a : k * (w - d) ≤ u * (w - d) = mul-le-mul-right (w - d) hu in
+      let b : k * d ≤ v * d = mul-le-mul-right d hv in
+      let e = whole-width k in
       omega arith
 
-  pub mean-small : 0 < w → u < 65536 → v < 65536 → mean / w < 65536
-  mean-small W hu hv = div-lt-iff-lt-mul W .1 (let h = mean-bound hu hv in omega arith)
+  mean-most : (k : ℕ) → u ≤ k → v ≤ k → mean ≤ k * w
+  mean-most k hu hv =
+      let a : u * (w - d) ≤ k * (w - d) = mul-le-mul-right (w - d) hu in
+      let b : v * d ≤ k * d = mul-le-mul-right d hv in
+      let e = whole-width k in
+      omega arith
+
+  pub mean-between : (low high : ℕ) → 0 < w → low ≤ u → low ≤ v → u ≤ high → v ≤ high → (low ≤ mean / w) × (mean / w ≤ high)
+  mean-between low high W lu lv hu hv =
+      let h : mean / w < high + 1 = div-lt-iff-lt-mul W .1 (let m = mean-most high hu hv in let e = add-mul high 1 w in omega arith) in
+      (le-div-iff-mul-le W .1 (mean-least low lu lv), omega arith)
 
   pub mean-fits : u < 65536 → v < 65536 → w ≤ 1048576 → (u * (w - d) < 18446744073709551616) × (v * d < 18446744073709551616) × (mean < 18446744073709551616)
-  mean-fits hu hv hw = let h = mean-bound hu hv in (omega arith, omega arith, omega arith)
+  mean-fits hu hv hw = let h = mean-most 65535 (omega arith) (omega arith) in (omega arith, omega arith, omega arith)
 
   pub mean-of : (s t : ℤ) → 0 < w → Diff s u 32768 → Diff t v 32768
       → Diff (s +ℤ floorDiv ((t -ℤ s) *ℤ pos d) w) (mean / w) 32768 × (floorMod ((t -ℤ s) *ℤ pos d) w ≡ mean % w)
@@ -72,7 +82,7 @@ module _ (u v d w : ℕ) (D : d ≤ w) where
       let e₁ : (v + 32768) * d ≡ v * d + 32768 * d = add-mul v 32768 d in
       let e₂ : (32768 + u) * d ≡ 32768 * d + u * d = add-mul 32768 u d in
       let e₃ = whole-width u in
-      let f = floorDiv-of x w mean u W (diff-to x ((v + 32768) * d) ((32768 + u) * d) mean (u * w) (diff-mul (t -ℤ s) d (v + 32768) (32768 + u) (diff-sub t s v 32768 u 32768 ht hs)) (omega arith)) in
+      let f = floor-of x w mean u W (diff-to x ((v + 32768) * d) ((32768 + u) * d) mean (u * w) (diff-mul (t -ℤ s) d (v + 32768) (32768 + u) (diff-sub t s v 32768 u 32768 ht hs)) (omega arith)) in
       (diff-to (s +ℤ floorDiv x w) (u + mean / w) (32768 + u) (mean / w) 32768 (diff-add s (floorDiv x w) u 32768 (mean / w) u hs (f .0)) (omega arith), f .1)
 
 -- ---- A code in offset binary

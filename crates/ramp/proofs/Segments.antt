@@ -111,6 +111,14 @@ module _ (ps : List Breakpoint) (n c d : ℕ) (rules : Rules ps n c d) where
       start zero p = let e = rules .first in omega arith
       start (suc k) p = let h = p (suc k) (omega arith) (omega arith) in omega arith
 
+  -- each index up to the last stands in a segment
+  pub located : (i : ℕ) → i ≤ lastIndex ps → (k : ℕ) × InSegment ps k i
+  located zero l = let m = rules .at-least in (0, record { more = omega arith; past = λ j a b. absurd (omega arith); end = omega arith })
+  located (suc i) l =
+      let s = located i (omega arith) in
+      let r = subst (λ (j : ℕ). Reached ps (s .0) j) (add-one i) (reached-next (s .0) i (s .1)) in
+      (cond (ltb (indexAt ps (s .0 + 1)) (suc i)) (s .0 + 1) (s .0), found-next (s .0) (suc i) r l)
+
   -- ---- An index between two neighbours, or at one of them
 
   -- past the first of them, or at the first of all

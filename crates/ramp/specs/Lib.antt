@@ -3,3 +3,4 @@ pub mod Ramp
 pub mod Rules
 pub mod Answers
 pub mod Copying
+pub mod Laws

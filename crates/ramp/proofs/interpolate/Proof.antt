@@ -9,7 +9,7 @@ use mir.ValLaws.{toZ-ofZ}
 use borrow.Author.Needs.{needs}
 use Rattle.ramp.specs.Interpolation.{codeBetween, remainderBetween}
 use Rattle.ramp.proofs.Signs.{Diff, diff-sum, sum-diff}
-use Rattle.ramp.proofs.Rounding.{mean, mean-fits, mean-small, mean-of}
+use Rattle.ramp.proofs.Rounding.{mean, mean-fits, mean-between, mean-of}
 use Rattle.ramp.proofs.interpolate.Statement.{statement}
 use Rattle.ramp.proofs.interpolate.Tie as tie
 
@@ -50,7 +50,11 @@ module _ (c : tie.After-offset-binary2) where
   sized = mean-fits u v d w d-le (c .before .offset-binary .ensures .1) (c .offset-binary2 .ensures .1) w-small
 
   code-small : mean u v d w d-le / w < 65536
-  code-small = mean-small u v d w d-le w-pos (c .before .offset-binary .ensures .1) (c .offset-binary2 .ensures .1)
+  code-small =
+      let hu = c .before .offset-binary .ensures .1 in
+      let hv = c .offset-binary2 .ensures .1 in
+      let h = mean-between u v d w d-le 0 65535 w-pos (omega arith) (omega arith) (omega arith) (omega arith) .1 in
+      omega arith
 
 sub-width : tie.Need-sub-width
 sub-width c = search needs
