@@ -39,6 +39,21 @@ pub fn part<'a>(pool: &'a [u32], span: Span) -> &'a [u32] {
     front(&pool[from..], span.length)
 }
 
+pub fn part_mut<'a>(pool: &'a mut [u32], span: Span) -> &'a mut [u32] {
+    let from = at_most(pool, span.from);
+    front_mut(&mut pool[from..], span.length)
+}
+
+// The first words of one slice into another, as many as both have.
+pub fn copy(from: &[u32], to: &mut [u32]) {
+    let count = least(from.len(), to.len());
+    let mut i: usize = 0;
+    while i < count {
+        to[i] = from[i];
+        i += 1;
+    }
+}
+
 // One step of xorshift32.
 fn xorshifted(seed: u32) -> u32
     ensures { λ r. ⌜ r ≡ xorshift seed ⌝ }

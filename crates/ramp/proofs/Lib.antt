@@ -11,3 +11,4 @@ pub mod Call
 pub mod Front
 pub mod Exact
 pub mod Laws
+pub mod Rows

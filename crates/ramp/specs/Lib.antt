@@ -4,3 +4,4 @@ pub mod Rules
 pub mod Answers
 pub mod Copying
 pub mod Laws
+pub mod Rows

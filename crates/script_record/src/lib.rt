@@ -1,9 +1,10 @@
-// One record of a call script (tests/CALLS.md, Records): its call on the board, with the words it lends.
+// One record of a call script (tests/CALLS.md, Records): its call, with the words it lends.
 use board_state::Board;
 use call_script::lent;
 use call_script::pool;
 use call_script::script::Record;
 use output::Block;
+use ramp::WordCount;
 
 // Opens a board over the first words of both pools, or as many of them as there are.
 pub fn open(
@@ -142,6 +143,15 @@ fn set_word(block: &mut Block, setpoints: &mut [u32], readbacks: &mut [u32], rec
     }
 }
 
+// A ramp, which names no board: kind 14.
+fn ramp_call(block: &mut Block, setpoints: &mut [u32], readbacks: &[u32], record: Record) {
+    let answer = script_ramp::call(setpoints, readbacks, record);
+    match answer {
+        WordCount::Words(count) => output::numbered(block, b" wrote ", count as u64),
+        WordCount::Refused(reason) => printed_calls::refused(block, reason),
+    }
+}
+
 // A record of any kind, and the board after it.
 fn call(
     block: &mut Block,
@@ -160,6 +170,10 @@ fn call(
         }
         13 => {
             set_word(block, setpoints, readbacks, record);
+            b
+        }
+        14 => {
+            ramp_call(block, setpoints, readbacks, record);
             b
         }
         _ => plain_call(block, b, record),
