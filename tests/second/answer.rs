@@ -13,6 +13,8 @@ pub enum Answer {
     Part(Vec<u32>),
     Length(usize),
     Level(u16),
+    /// The words that a ramp wrote to each buffer.
+    Wrote(usize),
     /// A script record that makes no call.
     None,
     Refused(u8),
@@ -36,6 +38,7 @@ impl fmt::Display for Answer {
             }
             Answer::Length(n) => write!(f, "length {n}"),
             Answer::Level(n) => write!(f, "level {n}"),
+            Answer::Wrote(n) => write!(f, "wrote {n}"),
             Answer::None => write!(f, "none"),
             Answer::Refused(n) => write!(f, "refused {n}"),
         }

@@ -1,6 +1,7 @@
-//! `selftest`: document 01's starred examples, and examples of document 02's request 3, run on this program.
+//! `selftest`: document 01's starred examples, and examples of document 02's requests 3 and 4, run on this program.
 
 mod end_word;
+mod ramp;
 
 use crate::board::{Board, Reply};
 use crate::frame::{crc, frame};
@@ -46,7 +47,7 @@ impl Small {
 type Done = Vec<(&'static str, bool)>;
 
 pub fn all() -> Done {
-    [frames(), starts(), resumes(), kept_words(), files(), end_word::all()].concat()
+    [frames(), starts(), resumes(), kept_words(), files(), end_word::all(), ramp::all()].concat()
 }
 
 fn frames() -> Done {

@@ -11,6 +11,7 @@ mod dice;
 mod end_word;
 mod files;
 mod missing;
+mod ramp;
 mod story;
 mod summary;
 mod world;

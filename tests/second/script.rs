@@ -9,6 +9,7 @@
 //!    3 setpoint, user x, index y, word z (s.)  10 event x             (readbacks)
 //!    4 arm   5 disarm                          11 user x
 //!    6 reply y + z × 2^32      (readbacks)     12 interrupt level   13 poke
+//!   14 ramp of y breakpoints, N x, lent z low and z high words, with no board
 //!
 //! Lent codes: 0 right, 1 one word short, 2 empty, 3 the other pool's first words, 4 one word
 //! long; of the retired calls: 0 own, 1 first short, 2 both empty, 3 the next channel's,
@@ -17,12 +18,15 @@
 use crate::answer::{answer, ticks, Answer};
 use crate::board::Board;
 use crate::map::readable;
+use crate::ramp::{ramp, reached, Asked, Breakpoint};
 use crate::runfile::number;
 use crate::tally::Did;
 use std::fmt::Write;
 
 pub const SETPOINTS: usize = 64 * 32;
 pub const READBACKS: usize = 8 * 64;
+/// Where the second half of the setpoint pool starts, which a ramp is lent for its remainders.
+const HALF: usize = SETPOINTS / 2;
 
 pub struct Bench {
     pub board: Board,
@@ -126,6 +130,20 @@ impl Bench {
         }
     }
 
+    /// The breakpoints are of the readback pool, two words each: the index, and the code in the low 16 bits of the other.
+    fn ramp(&mut self, n: u32, count: usize, codes: usize, remainders: usize) -> Answer {
+        let pairs = self.readbacks.chunks(2).take(count);
+        let points: Vec<_> = pairs.map(|p| Breakpoint { index: p[0], code: p[1] as u16 as i16 }).collect();
+        let (first, second) = self.setpoints.split_at_mut(HALF);
+        let (codes, remainders) = (&mut first[..codes.min(HALF)], &mut second[..remainders.min(HALF)]);
+        for (is, did) in reached(&Asked { points: &points, n, codes, remainders }, &self.board) {
+            if is {
+                self.board.tally.add(did);
+            }
+        }
+        answer(ramp(&points, n, codes, remainders), Answer::Wrote)
+    }
+
     pub fn step(&mut self, r: &[u8]) -> Answer {
         let (kind, c, code, buffer) = (r[0], r[1] as u32, r[2], r[3] as u32);
         let (x, y, z) = (number(r, 4), number(r, 8), number(r, 12));
@@ -148,6 +166,7 @@ impl Bench {
             11 => answer(board.change_user(x), |_| Answer::Ok),
             12 => Answer::Level(board.interrupt_level()),
             13 => self.poke(c != 0, x as usize, y),
+            14 => self.ramp(x, y as usize & 0xFFFF, z as usize & 0xFFFF, z as usize >> 16),
             _ => Answer::None,
         }
     }

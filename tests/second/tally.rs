@@ -73,6 +73,22 @@ tallies! {
     end_word_of_depth_1_reply_lost end_word_of_depth_1_sixth_lost end_word_of_depth_1_after_lost
     end_word_of_depth_1_command_reply end_word_of_depth_1_part end_word_of_depth_2_in_last_place
     end_word_part_of_full_buffer end_word_part_empty_after_reset end_word_in_part end_word_of_closed_board
+    ramp_written ramp_on_open_board ramp_on_closed_board ramp_while_a_function_runs
+    ramp_of_2_breakpoints ramp_of_3_to_63_breakpoints ramp_of_64_breakpoints
+    ramp_of_n_2 ramp_of_n_1024 ramp_to_n_less_1 ramp_to_below_n_less_1
+    ramp_code_below_0 ramp_code_least ramp_code_most ramp_least_to_most ramp_most_to_least
+    ramp_rising_above_0_with_remainder ramp_rising_below_0_with_remainder ramp_rising_through_0_with_remainder
+    ramp_falling_above_0_with_remainder ramp_falling_below_0_with_remainder ramp_falling_through_0_with_remainder
+    ramp_flat_slope ramp_steep_slope ramp_remainder_0_between ramp_level ramp_of_width_1 ramp_of_width_1023
+    ramp_codes_just_fit ramp_remainders_just_fit ramp_later_words_below_n ramp_later_words_from_n
+    ramp_over_high_bits ramp_over_older_last_word ramp_before_older_last_word
+    ramp_refused_on_open_board ramp_refused_on_closed_board ramp_refused_leaves_codes ramp_refused_leaves_remainders
+    ramp_refused_0_breakpoints ramp_refused_1_breakpoint ramp_refused_65_breakpoints ramp_refused_over_65_breakpoints
+    ramp_refused_n_0 ramp_refused_n_1 ramp_refused_n_over_range ramp_refused_n_of_range_over_lent
+    ramp_refused_first_index ramp_refused_equal_neighbours ramp_refused_falling_neighbours ramp_refused_first_pair
+    ramp_refused_last_pair ramp_refused_last_is_n ramp_refused_last_above_n ramp_refused_last_all_ones
+    ramp_refused_codes_one_short ramp_refused_remainders_one_short ramp_refused_codes_with_room
+    ramp_refused_remainders_with_room
 }
 
 #[derive(Clone)]

@@ -250,7 +250,7 @@ fn odd_record(d: &Dice, is_script: bool) -> [u8; 16] {
     let mut r = d.bytes();
     if is_script {
         // kinds past the list make no call
-        r[0] = 14 + d.below(242) as u8;
+        r[0] = 15 + d.below(241) as u8;
         return r;
     }
     r[0] = d.of(&[0, 1, 3, 4, 5, 5, 8, 9, d.below(256) as u8]);

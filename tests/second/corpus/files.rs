@@ -1,6 +1,7 @@
 //! The files of a corpus: run files, whole or damaged, and call scripts.
 
 use super::dice::Dice;
+use super::ramp::ramp_script;
 use super::story::{story, BASE, DEPTHS_M, DEPTHS_N};
 use super::world::{run_record, Op, World};
 use std::fs;
@@ -171,6 +172,10 @@ pub fn generate(dir: &Path, seed: u64, count: u32) -> std::io::Result<()> {
         fs::write(dir.join(format!("{i:04}.run")), run_file(&d, i))?;
         let d = Dice::new(seed ^ (i as u64) << 32 ^ 0x43);
         fs::write(dir.join(format!("{i:04}.calls")), script_file(&d, i))?;
+        if i % 10 == 0 {
+            let d = Dice::new(seed ^ (i as u64) << 32 ^ 0x4C);
+            fs::write(dir.join(format!("ramp-{i:04}.calls")), ramp_script(&d, i / 10))?;
+        }
     }
     Ok(())
 }

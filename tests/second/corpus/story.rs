@@ -2,6 +2,7 @@
 
 use super::acts::act;
 use super::dice::Dice;
+use super::ramp::ramps;
 use super::world::{Op, World};
 use crate::board::Peek;
 use crate::frame::frame;
@@ -158,6 +159,9 @@ pub fn story(world: &mut World, d: &Dice, acts: u32) {
     }
     for _ in 0..acts {
         act(world, d, &t);
+        if world.is_script() && d.chance(1) {
+            ramps(world, d, 5);
+        }
         if world.is_script() && d.chance(2) {
             reopen(world, d);
             for &c in &t.channels {

@@ -41,13 +41,13 @@ struct Reach {
     /// Files with a frame.
     sending: u64,
     /// By number.
-    refused: [u64; 11],
+    refused: [u64; 12],
     did: Tally,
 }
 
 impl Reach {
     fn new() -> Reach {
-        Reach { files: 0, answers: 0, frames: 0, sending: 0, refused: [0; 11], did: Tally::new() }
+        Reach { files: 0, answers: 0, frames: 0, sending: 0, refused: [0; 12], did: Tally::new() }
     }
     fn add(&mut self, answers: &[Answer], did: Option<&Tally>) {
         self.files += 1;
@@ -67,13 +67,14 @@ impl Reach {
     }
 }
 
-/// Prints the refusals, and answers those that are not reached: no run file is lent wrong lengths, and a
-/// script has no trailer and no range of a record's numbers.
+/// Prints the refusals, and answers those that are not reached: no run file is lent wrong lengths or asks for a ramp, and
+/// a script has no trailer and no range of a record's numbers.
 fn refusals(runs: &Reach, calls: &Reach) -> Vec<String> {
     let mut missing = Vec::new();
-    for n in 1..=10 {
+    for n in 1..=11 {
         println!("refused {n}: {} in run files, {} in scripts", runs.refused[n], calls.refused[n]);
-        if (n != 1 && runs.refused[n] == 0) || (n != 8 && n != 9 && calls.refused[n] == 0) {
+        let (is_of_runs, is_of_scripts) = (n != 1 && n != 11, n != 8 && n != 9);
+        if (is_of_runs && runs.refused[n] == 0) || (is_of_scripts && calls.refused[n] == 0) {
             missing.push(format!("refused {n}"));
         }
     }
@@ -88,8 +89,8 @@ const OF_SCRIPTS: [&str; 11] = [
     "end_word_part_of_full_buffer", "end_word_part_empty_after_reset", "end_word_in_part",
 ];
 
-/// Prints what was done, and answers what was not. What a request adds (command frames, missing readbacks, the end word)
-/// is asked of both kinds of files, which different programs read.
+/// Prints what was done, and answers what was not. What a request adds to the board (command frames, missing readbacks,
+/// the end word) is asked of both kinds of files, which different programs read; ramps are of scripts alone.
 fn done(runs: &Reach, calls: &Reach) -> Vec<String> {
     let mut missing = Vec::new();
     for ((name, in_runs), in_calls) in DID.iter().zip(&runs.did.0).zip(&calls.did.0) {

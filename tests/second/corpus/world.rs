@@ -20,6 +20,7 @@ pub enum Op {
     Level,
     Open { n: u32, m: u32, setpoints: u32, readbacks: u32 },
     Poke { readbacks: bool, at: u32, word: u32 },
+    Ramp { n: u32, count: u32, codes: u32, remainders: u32 },
     /// A whole record as it stands.
     Raw([u8; 16]),
 }
@@ -49,7 +50,7 @@ fn as_run_record(op: Op, dice: &Dice) -> Option<[u8; 8]> {
         Op::Arm(c) => run_record(8, c, unused(), 1),
         Op::Disarm(c) => run_record(8, c, 0, 0),
         Op::Raw(r) => [r[0], r[1], r[2], r[3], r[4], r[5], r[6], r[7]],
-        Op::Retired { .. } | Op::Level | Op::Open { .. } | Op::Poke { .. } => return None,
+        Op::Retired { .. } | Op::Level | Op::Open { .. } | Op::Poke { .. } | Op::Ramp { .. } => return None,
     })
 }
 
@@ -79,6 +80,12 @@ fn as_script_record(op: Op, dice: &Dice, spite: u32) -> [u8; 16] {
         Op::Level => script_record(12, 0, 0, 0, 0, 0, 0),
         Op::Open { n, m, setpoints, readbacks } => script_record(0, 0, 0, 0, n, m, readbacks << 16 | setpoints),
         Op::Poke { readbacks, at, word } => script_record(13, readbacks as u32, 0, 0, at, word, 0),
+        Op::Ramp { n, count, codes, remainders } => {
+            // bytes 1 to 3, and the high 16 bits of y, mean nothing
+            let any = if dice.chance(70) { 0 } else { dice.roll() as u32 };
+            let [c, lent, buffer, _] = any.to_le_bytes();
+            script_record(14, c as u32, lent, buffer as u32, n, any << 16 | count & 0xFFFF, remainders << 16 | codes & 0xFFFF)
+        }
         Op::Raw(bytes) => bytes,
     }
 }
