@@ -11,4 +11,5 @@ pub mod Call
 pub mod Front
 pub mod Exact
 pub mod Laws
+pub mod Only
 pub mod Rows

@@ -59,6 +59,12 @@ RampWritten =
     (ps : List Breakpoint) (n words : ℕ) (codes remainders : List ℕ) → CodesInRange ps → rampAnswer ps n (length codes) (length remainders) ≡ wrote words
     → Rules ps n (length codes) (length remainders) × Written ps words codes remainders (rampCodes ps n codes remainders) (rampRemainders ps n codes remainders)
 
+-- and no others are so: what is said above fixes every word of both buffers
+abbrev pub WrittenOnly : Type 0
+WrittenOnly =
+    (ps : List Breakpoint) (words : ℕ) (codes remainders codes′ remainders′ codes″ remainders″ : List ℕ) → Written ps words codes remainders codes′ remainders′
+    → Written ps words codes remainders codes″ remainders″ → (codes′ ≡ codes″) × (remainders′ ≡ remainders″)
+
 -- one that is refused is refused 11 and broke a rule, and "nothing is written"
 abbrev pub RampRefused : Type 0
 RampRefused =
