@@ -12,7 +12,7 @@ use lib.Seq.{getD-take, take-suc, take-suc-set, take-length}
 use Rattle.ramp.specs.declared.Breakpoint.{Breakpoint}
 use Rattle.ramp.specs.declared.Breakpoints.{Breakpoints}
 use Rattle.ramp.specs.Ramp.{none, indexAt, lastIndex}
-use Rattle.ramp.specs.Copying.{emptyList, appended, copied, copyCount, listed, Whole}
+use Rattle.ramp.specs.Copying.{emptyList, appended, copied, copyCount, listed, WellFormed}
 
 -- ---- Copying, one by one
 
@@ -60,7 +60,7 @@ copied-points ps (suc k) h g =
 -- ---- The whole list
 
 module _ (ps : List Breakpoint) (l : Breakpoints) (e : l ≡ copied ps (copyCount (length ps))) where
-  pub whole-of : Whole l
+  pub whole-of : WellFormed l
   whole-of =
       let h : l .count ≡ copyCount (length ps) = ap (λ (u : Breakpoints). u .count) e ∙ copied-count ps (copyCount (length ps)) in
       let b = copyCount-bounds (length ps) in

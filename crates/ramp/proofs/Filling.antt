@@ -1,21 +1,26 @@
 -- The loop of `fill`: what holds at its head, and what a turn makes of it. Assumes nothing.
 use mathlib.Core.Path.{_≡_, refl, sym, ap, subst, _∙_}
-use Prim.Native.Nat.{ℕ, zero, suc, _+_, _-_, _≤_, _<_}
+use Prim.Native.Nat.{ℕ, _+_, _-_, _≤_, _<_}
+use native.Mathlib.Nat.{eq-or-lt-of-le}
 use native.Mathlib.Numerals.{add-one}
 use native.Mathlib.Omega.{arith}
-use mathlib.Core.Bool.{cond}
+use mathlib.Core.Bool.{Bool, true, false, cond}
+use mathlib.Core.Logic.{⊎-elim}
 use mathlib.Core.List.{List}
 use lib.Dec.{ltb, eqb}
 use lib.ListN.{length, getD, set}
 use lib.Seq.{getD-take}
+use mir.Syntax.{w16}
+use mir.Val.{SFits}
 use Rattle.ramp.specs.declared.Breakpoint.{Breakpoint}
 use Rattle.ramp.specs.declared.Breakpoints.{Breakpoints}
 use Rattle.ramp.specs.Interpolation.{twosComplement}
-use Rattle.ramp.specs.Ramp.{none, Segment, segment, segmentOf, codeIn, remainderIn, indexAt, lastIndex, codeWord, remainderWord, overwritten}
-use Rattle.ramp.specs.Rules.{Rules}
-use Rattle.ramp.specs.Copying.{listed, Whole, Near}
+use Rattle.ramp.specs.Ramp.{none, Segment, segment, segmentOf, codeIn, remainderIn, indexAt, codeAt, lastIndex, codeWord, remainderWord, overwritten}
+use Rattle.ramp.specs.Rules.{CodesInRange, Rules}
+use Rattle.ramp.specs.Copying.{listed, WellFormed, Brackets}
+use Rattle.ramp.proofs.Range.{range-of}
 use Rattle.ramp.proofs.Words.{overwritten-length}
-use Rattle.ramp.proofs.Segments.{InSegment, Reached, found-next, reached-next, near-of, segment-at}
+use Rattle.ramp.proofs.Segments.{InSegment, Reached, found-next, reached-next, reached-last, near-of, segment-at}
 use Rattle.ramp.proofs.Copies.{size-take, index-take, last-take}
 
 -- what holds whenever the loop's test is reached: all before i are written
@@ -24,8 +29,10 @@ pub record Going (ps : List Breakpoint) (cs ds cs′ ds′ : List ℕ) (k i : �
   pub far : i ≤ lastIndex ps + 1
   pub codes : cs′ ≡ overwritten (codeWord ps) i cs
   pub remainders : ds′ ≡ overwritten (remainderWord ps) i ds
+  -- a code that was read fits its type
+  pub fitting : (j : ℕ) → j ≤ k + 1 → 0 < i → SFits w16 (codeAt ps j)
 
-module _ (l : Breakpoints) (cs ds : List ℕ) (whole : Whole l) (n : ℕ) (rules : Rules (listed l) n (length cs) (length ds)) where
+module _ (l : Breakpoints) (cs ds : List ℕ) (whole : WellFormed l) (n : ℕ) (rules : Rules (listed l) n (length cs) (length ds)) where
   abbrev xs : List Breakpoint
   xs = l .points
 
@@ -48,7 +55,7 @@ module _ (l : Breakpoints) (cs ds : List ℕ) (whole : Whole l) (n : ℕ) (rules
   unfolding overwritten
   begin =
       let h = rules .at-least in
-      record { reached = record { more = omega arith; past = λ j a b. absurd (omega arith); end = omega arith }; far = omega arith; codes = refl; remainders = refl }
+      record { reached = record { more = omega arith; past = λ j a b. absurd (omega arith); end = omega arith }; far = omega arith; codes = refl; remainders = refl; fitting = λ j a b. absurd (omega arith) }
 
   module _ (cs′ ds′ : List ℕ) (k i : ℕ) (g : Going ps cs ds cs′ ds′ k i) where
     pub k-small : k + 1 < 64
@@ -56,6 +63,13 @@ module _ (l : Breakpoints) (cs ds : List ℕ) (whole : Whole l) (n : ℕ) (rules
 
     pub ends : last < i → i ≡ lastIndex ps + 1
     ends h = let f = g .far in let e = last-is in omega arith
+
+    -- and all codes have been read
+    pub in-range : last < i → CodesInRange ps
+    in-range h j l =
+        let e = ends h in
+        let m = reached-last ps n (length cs) (length ds) rules k (subst (λ (x : ℕ). Reached ps k x) e (g .reached)) in
+        range-of (codeAt ps j) (g .fitting j (omega arith) (omega arith))
 
     pub in-codes : i ≤ last → i < length cs′
     in-codes h =
@@ -82,6 +96,13 @@ module _ (l : Breakpoints) (cs ds : List ℕ) (whole : Whole l) (n : ℕ) (rules
           subst (λ (j : ℕ). InSegment ps j i) (ap (λ (j : ℕ). cond (ltb j i) (k + 1) k) (index-take xs (l .count) (k + 1) (omega arith)) ∙ sym e)
           (found-next ps n (length cs) (length ds) rules k i (g .reached) (omega arith))
 
+      r-near : r ≤ k + 1
+      r-near = subst (λ (j : ℕ). j ≤ k + 1) (sym e) (go (ltb (indexAt xs (k + 1)) i))
+        where
+          go : (b : Bool) → cond b (k + 1) k ≤ k + 1
+          go true = omega arith
+          go false = omega arith
+
       pub r-small : r + 1 < 64
       r-small = let m = found .more in let f = rules .at-most in omega arith
 
@@ -103,24 +124,35 @@ module _ (l : Breakpoints) (cs ds : List ℕ) (whole : Whole l) (n : ℕ) (rules
           segment-at ps r i found ∙ ap (λ (p : Breakpoint). segment p (getD ps (r + 1) none)) from-is
           ∙ ap (λ (p : Breakpoint). segment (getD xs r none) p) to-is
 
-      pub near : Near (indexAt xs r) (indexAt xs (r + 1)) i
+      pub near : Brackets (indexAt xs r) (indexAt xs (r + 1)) i
       near =
-          subst (λ (p : Breakpoint). Near (p .index) (indexAt xs (r + 1)) i) from-is
-          (subst (λ (p : Breakpoint). Near (indexAt ps r) (p .index) i) to-is (near-of ps n (length cs) (length ds) rules r i found))
+          subst (λ (p : Breakpoint). Brackets (p .index) (indexAt xs (r + 1)) i) from-is
+          (subst (λ (p : Breakpoint). Brackets (indexAt ps r) (p .index) i) to-is (near-of ps n (length cs) (length ds) rules r i found))
 
       pub next :
-          (code remainder word : ℕ) → code ≡ twosComplement (codeIn here i) → remainder ≡ remainderIn here i → word ≡ code + cond (eqb i last) 0x80000000 0
+          (code remainder word : ℕ) → SFits w16 (codeAt xs r) → SFits w16 (codeAt xs (r + 1)) → code ≡ twosComplement (codeIn here i) → remainder ≡ remainderIn here i → word ≡ code + cond (eqb i last) 0x80000000 0
           → Going ps cs ds (set cs′ i word) (set ds′ i remainder) r (i + 1)
       unfolding codeWord remainderWord overwritten
-      next code remainder word c d w =
+      next code remainder word ff ft c d w =
           let f = last-is in
           record {
             reached = reached-next ps n (length cs) (length ds) rules r i found;
             far = omega arith;
             codes = one-more (codeWord ps) cs cs′ word (g .codes) (w ∙ word-is);
             remainders = one-more (remainderWord ps) ds ds′ remainder (g .remainders) (d ∙ ap (λ (s : Segment). remainderIn s i) (sym here-is));
+            fitting = fit;
           }
         where
+          -- the neighbours' codes, and those before, which were read while i was past them
+          fit : (j : ℕ) → j ≤ r + 1 → 0 < i + 1 → SFits w16 (codeAt ps j)
+          fit j a b = ⊎-elim
+              (λ (q : j ≡ r + 1). subst (λ (m : ℕ). SFits w16 (codeAt ps m)) (sym q) (subst (λ (p : Breakpoint). SFits w16 (p .code)) (sym to-is) ft))
+              (λ (q : j < r + 1). ⊎-elim
+              (λ (f : j ≡ r). subst (λ (m : ℕ). SFits w16 (codeAt ps m)) (sym f) (subst (λ (p : Breakpoint). SFits w16 (p .code)) (sym from-is) ff))
+              (λ (f : j < r). let past = found .past r (omega arith) (omega arith) in let m = r-near in g .fitting j (omega arith) (omega arith))
+              (eq-or-lt-of-le (omega arith)))
+              (eq-or-lt-of-le a)
+
           word-is : code + cond (eqb i last) 0x80000000 0 ≡ codeWord ps i
           word-is =
               ap (λ (b : ℕ). b + cond (eqb i last) 0x80000000 0) (c ∙ ap (λ (s : Segment). twosComplement (codeIn s i)) (sym here-is))

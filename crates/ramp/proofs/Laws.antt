@@ -4,7 +4,7 @@ use Prim.Native.Nat.{ℕ, zero, suc, _+_, _-_, _*_, _/_, _%_, _≤_, _<_}
 use native.Mathlib.Nat.{eq-or-lt-of-le}
 use native.Mathlib.Numerals.{add-one}
 use native.Mathlib.Omega.{arith}
-use mathlib.Core.Bool.{Bool, true, false, not, cond}
+use mathlib.Core.Bool.{Bool, true, false, cond}
 use mathlib.Core.Logic.{⊎-elim}
 use mathlib.Core.List.{List}
 use lib.Dec.{ltb, eqb, eqb·suc-suc}
@@ -15,20 +15,17 @@ use Rattle.ramp.specs.declared.Breakpoint.{Breakpoint}
 use Rattle.ramp.specs.Answers.{Answer, wrote, refused}
 use Rattle.ramp.specs.Interpolation.{twosComplement}
 use Rattle.ramp.specs.Ramp.{none, Segment, segment, segmentOf, codeIn, remainderIn, indexAt, codeAt, lastIndex, isValid, codeWord, remainderWord, overwritten, rampAnswer, rampCodes, rampRemainders}
-use Rattle.ramp.specs.Rules.{Rules}
-use Rattle.ramp.specs.Laws.{CodesInRange, Between, signed, Exact, Written, RampWritten, RampRefused}
+use Rattle.ramp.specs.Rules.{CodesInRange, Rules}
+use Rattle.ramp.specs.Laws.{Between, signed, Exact, Written, RampWritten, RampRefused}
 use Rattle.ramp.proofs.Signs.{Diff}
-use Rattle.ramp.proofs.Rounding.{only, bits-low, bits-high}
+use Rattle.ramp.proofs.Range.{wordsOf, false-true}
+use Rattle.ramp.proofs.Rounding.{only}
 use Rattle.ramp.proofs.Exact.{offset-in, at-start, at-end, offset-of-code, exact-of}
 use Rattle.ramp.proofs.Validity.{valid-rules, rules-valid}
 use Rattle.ramp.proofs.Segments.{InSegment, segment-at, near-of, located, in-segment, in-first, below-last}
 use Rattle.ramp.proofs.Words.{overwritten-length, overwritten-below, overwritten-past}
 
 -- ---- What an answer says
-
-abbrev wordsOf : Answer → ℕ
-wordsOf (wrote k) = suc k
-wordsOf (refused k) = 0
 
 abbrev numberOf : Answer → ℕ
 numberOf (wrote k) = 0
@@ -50,9 +47,6 @@ module _ (ps : List Breakpoint) (n c d : ℕ) where
       go : (b : Bool) → cond b (wrote (lastIndex ps + 1)) (refused 11) ≡ refused number → (b ≡ false) × (number ≡ 11)
       go true f = let h = ap wordsOf f in absurd (omega arith)
       go false f = (refl, sym (ap numberOf f))
-
-true-false : true ≡ false → ⊥
-true-false e = let z : _≡_ {A = ℕ} 1 0 = ap (λ (b : Bool). cond b 1 0) e in omega arith
 
 -- ---- A word's code, and its high bits
 
@@ -123,10 +117,10 @@ module _ (ps : List Breakpoint) (n : ℕ) (codes remainders : List ℕ) (range :
       shared =
           let x = indexAt ps (suc j) in
           let m = b .neighbours in
-          let up = rules .rising j (omega arith) in
+          let up = rules .increasing j (omega arith) in
           let e = seg-at j x (inside j x (omega arith) up (omega arith)) in
           let f = at-end (indexAt ps j) (codeAt ps j) x (codeAt ps (suc j)) up in
-          let g = at-start x (codeAt ps (suc j)) (indexAt ps (suc (suc j))) (codeAt ps (suc (suc j))) (rules .rising (suc j) m) in
+          let g = at-start x (codeAt ps (suc j)) (indexAt ps (suc (suc j))) (codeAt ps (suc (suc j))) (rules .increasing (suc j) m) in
           (ap (λ (s : Segment). codeIn s x) e ∙ f .0 ∙ sym (g .0), ap (λ (s : Segment). remainderIn s x) e ∙ f .1 ∙ sym (g .1))
 
   -- ---- One word
@@ -145,7 +139,7 @@ module _ (ps : List Breakpoint) (n : ℕ) (codes remainders : List ℕ) (range :
     z = codeIn (seg k) i
 
     up : indexAt ps k < indexAt ps (suc k)
-    up = rules .rising k (b .neighbours)
+    up = rules .increasing k (b .neighbours)
 
     low : i < lastIndex ps + 1
     low = let h = below-last ps n c d rules (suc k) (b .neighbours) in let g = b .to in omega arith
@@ -193,12 +187,12 @@ module _ (ps : List Breakpoint) (n : ℕ) (codes remainders : List ℕ) (range :
   own-is : (k : ℕ) → k < length ps → (signed (getD codes′ (indexAt ps k) 0) ≡ codeAt ps k) × (getD remainders′ (indexAt ps k) 0 ≡ 0)
   own-is zero h =
       let m = rules .at-least in
-      let up = rules .rising 0 (omega arith) in
+      let up = rules .increasing 0 (omega arith) in
       let b : Between ps 0 (indexAt ps 0) = record { neighbours = omega arith; from = omega arith; to = omega arith } in
       let e = at-start (indexAt ps 0) (codeAt ps 0) (indexAt ps 1) (codeAt ps 1) up in
       (code-is 0 (indexAt ps 0) b ∙ e .0, remainder-is 0 (indexAt ps 0) b ∙ e .1)
   own-is (suc k) h =
-      let up = rules .rising k h in
+      let up = rules .increasing k h in
       let b : Between ps k (indexAt ps (suc k)) = record { neighbours = h; from = omega arith; to = omega arith } in
       let e = at-end (indexAt ps k) (codeAt ps k) (indexAt ps (suc k)) (codeAt ps (suc k)) up in
       (code-is k (indexAt ps (suc k)) b ∙ e .0, remainder-is k (indexAt ps (suc k)) b ∙ e .1)
@@ -223,12 +217,14 @@ pub ramp-written : RampWritten
 unfolding rampCodes rampRemainders
 ramp-written ps n words codes remainders range e =
     let a = wrote-valid ps n (length codes) (length remainders) words e in
-    let rules = valid-rules ps n (length codes) (length remainders) (a .0) in
-    (rules, subst (λ (w : ℕ). Written ps w codes remainders (rampCodes ps n codes remainders) (rampRemainders ps n codes remainders)) (sym (a .1))
-    (simp (a .0) (all-written ps n codes remainders range rules)))
+    let rules = valid-rules ps n (length codes) (length remainders) (a .0) in (
+      rules,
+      subst (λ (w : ℕ). Written ps w codes remainders (rampCodes ps n codes remainders) (rampRemainders ps n codes remainders)) (sym (a .1))
+          (simp (a .0) (all-written ps n codes remainders range rules)),
+    )
 
 pub ramp-refused : RampRefused
 unfolding rampCodes rampRemainders
 ramp-refused ps n number codes remainders e =
     let a = refused-invalid ps n (length codes) (length remainders) number e in
-    (a .1, (λ r. true-false (sym (rules-valid ps n (length codes) (length remainders) r) ∙ a .0)), simp (a .0), simp (a .0))
+    (a .1, (λ r. false-true (sym (a .0) ∙ rules-valid ps n (length codes) (length remainders) r)), simp (a .0), simp (a .0))

@@ -1,7 +1,8 @@
 pub mod Tests
+pub mod Range
 pub mod Signs
 pub mod Rounding
-pub mod Rising
+pub mod Increasing
 pub mod Validity
 pub mod Segments
 pub mod Copies

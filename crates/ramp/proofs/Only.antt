@@ -1,13 +1,14 @@
 -- The laws fix every word (`WrittenOnly`, specs/Laws). Assumes nothing.
-use mathlib.Core.Path.{_≡_, refl, sym, ap, ap₂, subst, _∙_}
-use Prim.Native.Nat.{ℕ, zero, suc, _+_, _-_, _*_, _/_, _%_, _≤_, _<_}
+use mathlib.Core.Path.{_≡_, refl, sym, ap, subst, _∙_}
+use Prim.Native.Nat.{ℕ, suc, _+_, _-_, _*_, _/_, _%_, _≤_, _<_}
 use native.Mathlib.Nat.{add-mul, mod-lt, div-add-mod'}
 use native.Mathlib.Omega.{arith}
 use mathlib.Core.Bool.{Bool, true, false, not, cond}
-use mathlib.Core.List.{List, [], _∷_}
+use mathlib.Core.List.{List}
 use lib.Dec.{T, ltb, ltb→lt, nltb→le, lit<}
 use lib.IntN.{ℤ, pos, negsuc, _+ℤ_, _*ℤ_}
-use lib.ListN.{length, getD}
+use lib.ListN.{getD}
+use lib.Seq.{ext-getD}
 use Rattle.ramp.specs.declared.Breakpoint.{Breakpoint}
 use Rattle.ramp.specs.Interpolation.{twosComplement}
 use Rattle.ramp.specs.Ramp.{indexAt}
@@ -58,12 +59,6 @@ word-only x y e h =
     let q = div-add-mod' y 65536 in
     omega arith
 
-lists-same : (xs ys : List ℕ) → length xs ≡ length ys → ((i : ℕ) → i < length xs → getD xs i 0 ≡ getD ys i 0) → xs ≡ ys
-lists-same [] [] l h = refl
-lists-same [] (y ∷ ys) l h = absurd (omega arith)
-lists-same (x ∷ xs) [] l h = absurd (omega arith)
-lists-same (x ∷ xs) (y ∷ ys) l h = ap₂ _∷_ (h 0 (omega arith)) (lists-same xs ys (omega arith) (λ i g. h (suc i) (omega arith)))
-
 module _ (ps : List Breakpoint) (words : ℕ) (codes remainders codes′ remainders′ codes″ remainders″ : List ℕ)
     (one : Written ps words codes remainders codes′ remainders′) (two : Written ps words codes remainders codes″ remainders″) where
   both : (i : ℕ) → i < words → (getD codes′ i 0 ≡ getD codes″ i 0) × (getD remainders′ i 0 ≡ getD remainders″ i 0)
@@ -88,8 +83,8 @@ module _ (ps : List Breakpoint) (words : ℕ) (codes remainders codes′ remaind
 
   same : (codes′ ≡ codes″) × (remainders′ ≡ remainders″)
   same = (
-    lists-same codes′ codes″ (one .same-codes ∙ sym (two .same-codes)) (λ i l. at-each i .0),
-    lists-same remainders′ remainders″ (one .same-remainders ∙ sym (two .same-remainders)) (λ i l. at-each i .1),
+    ext-getD 0 codes′ codes″ (one .same-codes ∙ sym (two .same-codes)) (λ i l. at-each i .0),
+    ext-getD 0 remainders′ remainders″ (one .same-remainders ∙ sym (two .same-remainders)) (λ i l. at-each i .1),
   )
 
 pub written-only : WrittenOnly

@@ -1,14 +1,14 @@
 -- Rounding down, over the natural numbers. In offset binary, s = u − 32768 and t = v − 32768, the code at d of w steps from s to t is the whole part of the
 -- weighted mean (u * (w − d) + v * d) / w, and the remainder is what that division leaves. Assumes nothing.
-use mathlib.Core.Path.{_≡_, refl, sym, ap, _∙_}
-use Prim.Native.Nat.{ℕ, zero, suc, _+_, _-_, _*_, _/_, _%_, _≤_, _<_}
+use mathlib.Core.Path.{_≡_, sym, ap, _∙_}
+use Prim.Native.Nat.{ℕ, suc, _+_, _-_, _*_, _/_, _%_, _≤_, _<_}
 use native.Mathlib.Nat.{add-mul, mul-add, mod-lt, mod-eq-of-lt, div-add-mod', div-eq-of-lt-le, mul-add-mod-self-right, mul-le-mul-right, lt-of-mul-lt-mul-right, div-lt-iff-lt-mul, le-div-iff-mul-le}
 use native.Mathlib.Omega.{arith}
 use lib.IntN.{ℤ, pos, negsuc, _+ℤ_, _-ℤ_, _*ℤ_}
 use mir.Syntax.{w16}
 use mir.Val.{SFits}
 use Rattle.ramp.specs.Interpolation.{floorDiv, floorMod, twosComplement}
-use Rattle.ramp.proofs.Signs.{Diff, diff-add, diff-sub, diff-mul, diff-same, diff-to}
+use Rattle.ramp.proofs.Signs.{Diff, diff-add, diff-sub, diff-mul, diff-to}
 
 -- the quotient and the remainder are the only ones
 pub only : (n q r w : ℕ) → n ≡ q * w + r → r < w → (n / w ≡ q) × (n % w ≡ r)

@@ -13,7 +13,7 @@ use borrow.Author.Tests.{le-leb, lt-leb}
 use Rattle.ramp.specs.declared.Breakpoint.{Breakpoint}
 use Rattle.ramp.specs.Ramp.{none, Segment, segment, segmentFrom, segmentOf, indexAt, lastIndex}
 use Rattle.ramp.specs.Rules.{Rules}
-use Rattle.ramp.specs.Copying.{Near}
+use Rattle.ramp.specs.Copying.{Brackets}
 
 -- the neighbours k and k + 1
 abbrev pub neighbours : List Breakpoint → ℕ → Segment
@@ -52,7 +52,7 @@ segment-at (a ∷ b ∷ ps) k i s =
 
 module _ (ps : List Breakpoint) (n c d : ℕ) (rules : Rules ps n c d) where
   pub rise-at : (k : ℕ) → k + 1 < length ps → indexAt ps k < indexAt ps (k + 1)
-  rise-at k h = subst (λ (j : ℕ). indexAt ps k < indexAt ps j) (sym (add-one k)) (rules .rising k (omega arith))
+  rise-at k h = subst (λ (j : ℕ). indexAt ps k < indexAt ps j) (sym (add-one k)) (rules .increasing k (omega arith))
 
   -- a later index is no smaller, and none is past the last
   climb : (k j : ℕ) → j + k < length ps → indexAt ps k ≤ indexAt ps (j + k)
@@ -100,7 +100,7 @@ module _ (ps : List Breakpoint) (n c d : ℕ) (rules : Rules ps n c d) where
   pub reached-next : (k i : ℕ) → InSegment ps k i → Reached ps k (i + 1)
   reached-next k i s = record { more = s .more; past = λ j a b. (let h = s .past j a b in omega arith); end = let h = s .end in omega arith }
 
-  pub near-of : (k i : ℕ) → InSegment ps k i → Near (indexAt ps k) (indexAt ps (k + 1)) i
+  pub near-of : (k i : ℕ) → InSegment ps k i → Brackets (indexAt ps k) (indexAt ps (k + 1)) i
   near-of k i s =
       let h = below-last (k + 1) (s .more) in
       let l = rules .last in
@@ -110,6 +110,17 @@ module _ (ps : List Breakpoint) (n c d : ℕ) (rules : Rules ps n c d) where
       start : (k : ℕ) → ((j : ℕ) → 1 ≤ j → j ≤ k → indexAt ps j < i) → indexAt ps k ≤ i
       start zero p = let e = rules .first in omega arith
       start (suc k) p = let h = p (suc k) (omega arith) (omega arith) in omega arith
+
+  -- past the last index the last segment has been reached
+  pub reached-last : (k : ℕ) → Reached ps k (lastIndex ps + 1) → k + 1 + 1 ≡ length ps
+  reached-last k u = ⊎-elim
+      (λ (e : k + 1 + 1 ≡ length ps). e)
+      (λ (h : k + 1 + 1 < length ps).
+      let a = rise-at (k + 1) h in
+      let b = below-last (k + 1 + 1) h in
+      let c = u .end in
+      absurd (omega arith))
+      (eq-or-lt-of-le (let m = u .more in omega arith))
 
   -- each index up to the last stands in a segment
   pub located : (i : ℕ) → i ≤ lastIndex ps → (k : ℕ) × InSegment ps k i

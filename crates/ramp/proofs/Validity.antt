@@ -1,6 +1,6 @@
 -- The test is of just the rules. Assumes nothing.
 use mathlib.Core.Path.{_≡_, refl, _∙_}
-use Prim.Native.Nat.{ℕ, suc, _≤_, _<_}
+use Prim.Native.Nat.{ℕ, _≤_, _<_}
 use native.Mathlib.Omega.{arith}
 use mathlib.Core.Bool.{Bool, true, false, _&&_}
 use mathlib.Core.List.{List, []}
@@ -8,10 +8,10 @@ use lib.Dec.{leb, ltb, eqb}
 use lib.ListN.{length}
 use borrow.Author.Tests.{leb-true, ltb-true, eqb-true, le-leb, lt-ltb, eq-eqb}
 use Rattle.ramp.specs.declared.Breakpoint.{Breakpoint}
-use Rattle.ramp.specs.Ramp.{indexAt, lastIndex, rises, isValid}
+use Rattle.ramp.specs.Ramp.{indexAt, lastIndex, isIncreasing, isValid}
 use Rattle.ramp.specs.Rules.{Rules}
 use Rattle.ramp.proofs.Tests.{and-l, and-r}
-use Rattle.ramp.proofs.Rising.{rises-all, rises-at}
+use Rattle.ramp.proofs.Increasing.{increasing-all, increasing-at}
 
 module _ (ps : List Breakpoint) (n c d : ℕ) where
   pub valid-rules : isValid ps n c d ≡ true → Rules ps n c d
@@ -25,7 +25,7 @@ module _ (ps : List Breakpoint) (n c d : ℕ) where
       let b₆ = b₅ && ltb (lastIndex ps) n in
       let b₇ = b₆ && leb n c in
       let b₈ = b₇ && leb n d in
-      let e₈ = and-l b₈ (rises ps) e₉ in
+      let e₈ = and-l b₈ (isIncreasing ps) e₉ in
       let e₇ = and-l b₇ (leb n d) e₈ in
       let e₆ = and-l b₆ (leb n c) e₇ in
       let e₅ = and-l b₅ (ltb (lastIndex ps) n) e₆ in
@@ -41,13 +41,13 @@ module _ (ps : List Breakpoint) (n c d : ℕ) where
         last = ltb-true (lastIndex ps) n (and-r b₅ (ltb (lastIndex ps) n) e₆);
         codes = leb-true n c (and-r b₆ (leb n c) e₇);
         remainders = leb-true n d (and-r b₇ (leb n d) e₈);
-        rising = rises-at ps (and-r b₈ (rises ps) e₉);
+        increasing = increasing-at ps (and-r b₈ (isIncreasing ps) e₉);
       }
 
   -- what is left to ask once the other rules hold
-  pub valid-rising : 2 ≤ length ps → length ps ≤ 64 → 1 ≤ n → n ≤ 1048576 → indexAt ps 0 ≡ 0 → lastIndex ps < n → n ≤ c → n ≤ d → isValid ps n c d ≡ rises ps
+  pub valid-increasing : 2 ≤ length ps → length ps ≤ 64 → 1 ≤ n → n ≤ 1048576 → indexAt ps 0 ≡ 0 → lastIndex ps < n → n ≤ c → n ≤ d → isValid ps n c d ≡ isIncreasing ps
   unfolding isValid
-  valid-rising h₁ h₂ h₃ h₄ h₅ h₆ h₇ h₈ = simp (
+  valid-increasing h₁ h₂ h₃ h₄ h₅ h₆ h₇ h₈ = simp (
     le-leb 2 (length ps) h₁,
     le-leb (length ps) 64 h₂,
     le-leb 1 n h₃,
@@ -59,7 +59,7 @@ module _ (ps : List Breakpoint) (n c d : ℕ) where
   )
 
   pub rules-valid : Rules ps n c d → isValid ps n c d ≡ true
-  rules-valid r = valid-rising (r .at-least) (r .at-most) (r .depth-from) (r .depth-to) (r .first) (r .last) (r .codes) (r .remainders) ∙ rises-all ps (r .rising)
+  rules-valid r = valid-increasing (r .at-least) (r .at-most) (r .depth-from) (r .depth-to) (r .first) (r .last) (r .codes) (r .remainders) ∙ increasing-all ps (r .increasing)
 
   pub broken : (Rules ps n c d → ⊥) → isValid ps n c d ≡ false
   broken h = go (isValid ps n c d) refl

@@ -1,4 +1,4 @@
--- The list of breakpoints by value, as the code holds it, and what its private functions ask of it.
+-- The list of breakpoints by value, as the code holds it, and what its private functions ask for. No contract of a call open to callers speaks of it.
 use mathlib.Core.Path.{_≡_}
 use Prim.Native.Nat.{ℕ, zero, suc, _+_, _≤_, _<_}
 use mathlib.Core.Bool.{cond}
@@ -23,17 +23,17 @@ unfoldable pub copied : List Breakpoint → ℕ → Breakpoints
 copied ps zero = emptyList
 copied ps (suc k) = appended (copied ps k) (getD ps k none)
 
--- how many are copied: none of a list that is too long
+-- how many are copied: none of a list that is too long, which is refused as the empty one is
 abbrev pub copyCount : ℕ → ℕ
 copyCount n = cond (leb n 64) n 0
 
--- an array of 64, of which no more are meant
-pub record Whole (l : Breakpoints) : Type 0 where
+-- 64 places, of which no more are in use
+pub record WellFormed (l : Breakpoints) : Type 0 where
   pub few : l .count ≤ 64
   pub whole : length (l .points) ≡ 64
 
--- i stands between p and q, which differ
-pub record Near (p q i : ℕ) : Type 0 where
+-- p and q have i between them or at one of them; below the largest N, so that nothing overflows
+pub record Brackets (p q i : ℕ) : Type 0 where
   pub after : p ≤ i
   pub before : i ≤ q
   pub apart : p < q

@@ -2,7 +2,7 @@
 use Prim.Native.Nat.{ℕ, suc, _-_, _/_, _%_}
 use lib.IntN.{ℤ, pos, negsuc, _+ℤ_, _-ℤ_, _*ℤ_}
 
--- z / w, "rounded down". The negative number −(a + 1) is `negsuc a`: its quotient is −(a / w + 1).
+-- z / w, "rounded down". `negsuc a` is −(a + 1), and its quotient −(a / w + 1).
 unfoldable pub floorDiv : ℤ → ℕ → ℤ
 floorDiv (pos a) w = pos (a / w)
 floorDiv (negsuc a) w = negsuc (a / w)
@@ -19,7 +19,7 @@ codeBetween p s q t i = s +ℤ floorDiv ((t -ℤ s) *ℤ pos (i - p)) (q - p)
 unfoldable pub remainderBetween : (p : ℕ) (s : ℤ) (q : ℕ) (t : ℤ) (i : ℕ) → ℕ
 remainderBetween p s q t i = floorMod ((t -ℤ s) *ℤ pos (i - p)) (q - p)
 
--- "Codes go out as 16 bits, two's complement."
+-- "Codes go out as 16 bits, two's complement.": those of a code from −32,768 to 32,767
 unfoldable pub twosComplement : ℤ → ℕ
 twosComplement (pos n) = n
 twosComplement (negsuc n) = 65535 - n

@@ -1,5 +1,5 @@
--- Document 02, card 4: what every call leaves in the two lent buffers, told by what it answered. The definitions of a ramp's words do not stand in it, so a wrong
--- one fails here.
+-- Document 02, card 4: what every call leaves in the two lent buffers, told by what it answered. What a ramp's words are is said here by themselves, and not with
+-- specs/Interpolation or `segmentOf`: a wrong definition there fails here.
 use mathlib.Core.Path.{_≡_}
 use Prim.Native.Nat.{ℕ, suc, _+_, _-_, _/_, _%_, _≤_, _<_}
 use mathlib.Core.Bool.{cond}
@@ -12,11 +12,7 @@ use lib.Signed.{_≤ℤ_}
 use Rattle.ramp.specs.declared.Breakpoint.{Breakpoint}
 use Rattle.ramp.specs.Answers.{wrote, refused}
 use Rattle.ramp.specs.Ramp.{indexAt, codeAt, lastIndex, rampAnswer, rampCodes, rampRemainders}
-use Rattle.ramp.specs.Rules.{Rules}
-
--- "each an index and a signed code from −32,768 to 32,767": what a code's type, i16, can hold
-abbrev pub CodesInRange : List Breakpoint → Type 0
-CodesInRange ps = (k : ℕ) → k < length ps → (negsuc 32767 ≤ℤ codeAt ps k) × (codeAt ps k ≤ℤ pos 32767)
+use Rattle.ramp.specs.Rules.{CodesInRange, Rules}
 
 -- "At index i between neighbours (p, s) and (q, t)", or at one of them: they stand at k and k + 1 of the list
 pub record Between (ps : List Breakpoint) (k i : ℕ) : Type 0 where
@@ -28,8 +24,8 @@ pub record Between (ps : List Breakpoint) (k i : ℕ) : Type 0 where
 abbrev pub signed : ℕ → ℤ
 signed word = cond (ltb (word % 65536) 32768) (pos (word % 65536)) (negsuc (65535 - word % 65536))
 
--- "Code and remainder restore the exact fraction.", s + (t − s) × (i − p) / (q − p), here times q − p; "the remainder left over, from 0 to q − p − 1"; the code is
--- no lower than one neighbour's and no higher than the other's
+-- "Code and remainder restore the exact fraction.", s + (t − s) × (i − p) / (q − p), here times q − p; "the remainder left over, from 0 to q − p − 1". So the code is
+-- no lower than one neighbour's and no higher than the other's.
 pub record Exact (p : ℕ) (s : ℤ) (q : ℕ) (t : ℤ) (i : ℕ) (code : ℤ) (remainder : ℕ) : Type 0 where
   pub restores : code *ℤ pos (q - p) +ℤ pos remainder ≡ s *ℤ pos (q - p) +ℤ (t -ℤ s) *ℤ pos (i - p)
   pub below : remainder < q - p
@@ -53,7 +49,7 @@ pub record Written (ps : List Breakpoint) (words : ℕ) (codes remainders codes�
   pub same-codes : length codes′ ≡ length codes
   pub same-remainders : length remainders′ ≡ length remainders
 
--- a call that wrote kept the rules, and its words are these
+-- a call that wrote kept the rules, and its words are these; that the codes are in range is what their type, i16, holds (contract of `write_ramp`)
 abbrev pub RampWritten : Type 0
 RampWritten =
     (ps : List Breakpoint) (n words : ℕ) (codes remainders : List ℕ) → CodesInRange ps → rampAnswer ps n (length codes) (length remainders) ≡ wrote words

@@ -29,16 +29,24 @@ lastIndex ps = indexAt ps (length ps - 1)
 -- ---- The rules
 
 -- "indices rise strictly"
-unfoldable pub rises : List Breakpoint → Bool
-rises [] = true
-rises (a ∷ []) = true
-rises (a ∷ b ∷ ps) = ltb (a .index) (b .index) && rises (b ∷ ps)
+unfoldable pub isIncreasing : List Breakpoint → Bool
+isIncreasing [] = true
+isIncreasing (a ∷ []) = true
+isIncreasing (a ∷ b ∷ ps) = ltb (a .index) (b .index) && isIncreasing (b ∷ ps)
 
 -- "There are 2 to 64 of them." "N, in document 01's range". "The first index is 0, indices rise strictly, and the last is below N." Neither "lent buffer
--- shorter than N": they have c and d words.
-unfoldable pub isValid : List Breakpoint → (n c d : ℕ) → Bool
-isValid ps n c d =
-    leb 2 (length ps) && leb (length ps) 64 && leb 1 n && leb n 1048576 && eqb (indexAt ps 0) 0 && ltb (lastIndex ps) n && leb n c && leb n d && rises ps
+-- shorter than N". It is true just where `Rules` holds (specs/Laws).
+unfoldable pub isValid : List Breakpoint → (n codeWords remainderWords : ℕ) → Bool
+isValid ps n codeWords remainderWords =
+    leb 2 (length ps)
+    && leb (length ps) 64
+    && leb 1 n
+    && leb n 1048576
+    && eqb (indexAt ps 0) 0
+    && ltb (lastIndex ps) n
+    && leb n codeWords
+    && leb n remainderWords
+    && isIncreasing ps
 
 -- ---- The words
 
@@ -50,7 +58,7 @@ pub record Segment : Type 0 where
 abbrev pub segment : Breakpoint → Breakpoint → Segment
 segment a b = record { from = a; to = b }
 
--- those of an index: the first two of which the second is not before it, or the last two
+-- the neighbours of an index: the first segment that ends at it or after it, else the last
 unfoldable pub segmentFrom : Breakpoint → Breakpoint → List Breakpoint → ℕ → Segment
 segmentFrom a b [] i = segment a b
 segmentFrom a b (c ∷ ps) i = cond (leb i (b .index)) (segment a b) (segmentFrom b c ps i)
@@ -81,8 +89,9 @@ overwritten f (suc k) words = set (overwritten f k words) k (f k)
 -- ---- The call: its answer, and both lent buffers after it
 -- (11 "bad ramp": a rule for the breakpoints or N broken, or either lent buffer shorter than N; nothing is written; checked first.)
 
-unfoldable pub rampAnswer : List Breakpoint → (n c d : ℕ) → Answer
-rampAnswer ps n c d = cond (isValid ps n c d) (wrote (lastIndex ps + 1)) (refused (numberOf refusal.InvalidRamp))
+unfoldable pub rampAnswer : List Breakpoint → (n codeWords remainderWords : ℕ) → Answer
+rampAnswer ps n codeWords remainderWords =
+    cond (isValid ps n codeWords remainderWords) (wrote (lastIndex ps + 1)) (refused (numberOf refusal.InvalidRamp))
 
 unfoldable pub rampCodes : List Breakpoint → ℕ → (codes remainders : List ℕ) → List ℕ
 rampCodes ps n codes remainders =

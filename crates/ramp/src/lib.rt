@@ -6,11 +6,11 @@ ghost use mathlib.Core.Bool.{cond};
 ghost use lib.Dec.{ltb, eqb};
 ghost use lib.IntN.{ℤ, pos, _+ℤ_};
 ghost use lib.ListN.{length, getD, take};
-ghost use Rattle.ramp.specs.Answers.{countOf};
+ghost use Rattle.ramp.specs.Answers.{wrote, countOf};
 ghost use Rattle.ramp.specs.Interpolation.{codeBetween, remainderBetween, twosComplement};
-ghost use Rattle.ramp.specs.Ramp.{none, lastIndex, rises, isValid, codeWord, remainderWord, overwritten, rampAnswer, rampCodes, rampRemainders};
-ghost use Rattle.ramp.specs.Rules.{Rules};
-ghost use Rattle.ramp.specs.Copying.{emptyList, appended, copied, copyCount, listed, Whole, Near};
+ghost use Rattle.ramp.specs.Ramp.{none, lastIndex, isIncreasing, isValid, codeWord, remainderWord, overwritten, rampAnswer, rampCodes, rampRemainders};
+ghost use Rattle.ramp.specs.Rules.{CodesInRange, Rules};
+ghost use Rattle.ramp.specs.Copying.{emptyList, appended, copied, copyCount, listed, WellFormed, Brackets};
 
 pub struct Breakpoint {
     pub index: u32,
@@ -24,13 +24,13 @@ pub enum WordCount {
 }
 
 // A list of up to 64 breakpoints by value: the first `count` of the array.
-pub struct Breakpoints {
+struct Breakpoints {
     pub count: usize,
     pub points: [Breakpoint; 64],
 }
 
 // A code's 16 bits, and the remainder.
-pub struct Sample {
+struct Sample {
     pub code: u32,
     pub remainder: u32,
 }
@@ -96,7 +96,7 @@ pub fn write_ramp(
     codes: &mut [u32],
     remainders: &mut [u32],
 ) -> WordCount
-    ensures { λ r. ⌜ (countOf r ≡ rampAnswer (now (points .entry)) n (length (now (codes .entry))) (length (now (remainders .entry)))) × (now (codes .exit) ≡ rampCodes (now (points .entry)) n (now (codes .entry)) (now (remainders .entry))) × (now (remainders .exit) ≡ rampRemainders (now (points .entry)) n (now (codes .entry)) (now (remainders .entry))) ⌝ }
+    ensures { λ r. ⌜ (countOf r ≡ rampAnswer (now (points .entry)) n (length (now (codes .entry))) (length (now (remainders .entry)))) × (now (codes .exit) ≡ rampCodes (now (points .entry)) n (now (codes .entry)) (now (remainders .entry))) × (now (remainders .exit) ≡ rampRemainders (now (points .entry)) n (now (codes .entry)) (now (remainders .entry))) × ((words : ℕ) → countOf r ≡ wrote words → CodesInRange (now (points .entry))) ⌝ }
 {
     write_list(copy(points), n, codes, remainders)
 }
@@ -123,7 +123,7 @@ fn twos_complement(offset: u64) -> u32
 
 // Code and remainder at i, between (p, s) and (q, t). In offset binary the code is the whole part of a mean of s and t, weighted by the distances.
 fn interpolate(p: u32, s: i16, q: u32, t: i16, i: u32) -> Sample
-    requires { ⌜ Near p q i ⌝ }
+    requires { ⌜ Brackets p q i ⌝ }
     ensures { λ r. ⌜ (r .code ≡ twosComplement (codeBetween p s q t i)) × (r .remainder ≡ remainderBetween p s q t i) × (r .code < 65536) ⌝ }
 {
     let width = (q - p) as u64;
@@ -141,9 +141,9 @@ fn interpolate(p: u32, s: i16, q: u32, t: i16, i: u32) -> Sample
 }
 
 // Whether the indices rise strictly.
-fn is_rising(list: Breakpoints) -> bool
-    requires { ⌜ (1 ≤ list .count) × Whole list ⌝ }
-    ensures { λ r. ⌜ r ≡ rises (listed list) ⌝ }
+fn is_increasing(list: Breakpoints) -> bool
+    requires { ⌜ (1 ≤ list .count) × WellFormed list ⌝ }
+    ensures { λ r. ⌜ r ≡ isIncreasing (listed list) ⌝ }
 {
     let points = list.points;
     let n = list.count - 1;
@@ -162,7 +162,7 @@ fn is_rising(list: Breakpoints) -> bool
 
 // Whether the rules hold, for N and two buffers of so many words.
 fn is_valid(list: Breakpoints, n: u32, codes: usize, remainders: usize) -> bool
-    requires { ⌜ Whole list ⌝ }
+    requires { ⌜ WellFormed list ⌝ }
     ensures { λ r. ⌜ r ≡ isValid (listed list) n codes remainders ⌝ }
 {
     let points = list.points;
@@ -191,11 +191,11 @@ fn is_valid(list: Breakpoints, n: u32, codes: usize, remainders: usize) -> bool
     if remainders < depth {
         return false;
     }
-    is_rising(list)
+    is_increasing(list)
 }
 
-// The segment of i, counted from 0, where k is that of the index before it and ends at `end`.
-fn segment(k: usize, end: u32, i: u32) -> usize
+// The segment of i by its number from 0, where k is that of the index before it, which ends at `end`.
+fn segment_number(k: usize, end: u32, i: u32) -> usize
     requires { ⌜ k < 64 ⌝ }
     ensures { λ r. ⌜ r ≡ cond (ltb end i) (k + 1) k ⌝ }
 {
@@ -208,18 +208,18 @@ fn segment(k: usize, end: u32, i: u32) -> usize
 // D31 marks the last word.
 fn mark_last(code: u32, i: u32, last: u32) -> u32
     requires { ⌜ code < 65536 ⌝ }
-    ensures { λ r. ⌜ r ≡ code + cond (eqb i last) 2147483648 0 ⌝ }
+    ensures { λ r. ⌜ r ≡ code + cond (eqb i last) 0x80000000 0 ⌝ }
 {
     if i == last {
-        return code + 2147483648;
+        return code + 0x8000_0000;
     }
     code
 }
 
-// Both buffers, word by word.
+// Both buffers, word by word. Every breakpoint is read, and a code that is read is in its range.
 fn fill(list: Breakpoints, codes: &mut [u32], remainders: &mut [u32]) -> u32
-    requires { ⌜ (Whole list) × ((n : ℕ) × Rules (listed list) n (length (now codes)) (length (now remainders))) ⌝ }
-    ensures { λ r. ⌜ (r ≡ lastIndex (listed list) + 1) × (now (codes .exit) ≡ overwritten (codeWord (listed list)) r (now (codes .entry))) × (now (remainders .exit) ≡ overwritten (remainderWord (listed list)) r (now (remainders .entry))) ⌝ }
+    requires { ⌜ (WellFormed list) × ((n : ℕ) × Rules (listed list) n (length (now codes)) (length (now remainders))) ⌝ }
+    ensures { λ r. ⌜ (r ≡ lastIndex (listed list) + 1) × (now (codes .exit) ≡ overwritten (codeWord (listed list)) r (now (codes .entry))) × (now (remainders .exit) ≡ overwritten (remainderWord (listed list)) r (now (remainders .entry))) × CodesInRange (listed list) ⌝ }
 {
     let points = list.points;
     let count = list.count;
@@ -229,7 +229,7 @@ fn fill(list: Breakpoints, codes: &mut [u32], remainders: &mut [u32]) -> u32
     let mut i: u32 = 0;
     while i <= last {
         let next = points[k + 1];
-        k = segment(k, next.index, i);
+        k = segment_number(k, next.index, i);
         let a = points[k];
         let b = points[k + 1];
         let sample = interpolate(a.index, a.code, b.index, b.code, i);
@@ -242,8 +242,8 @@ fn fill(list: Breakpoints, codes: &mut [u32], remainders: &mut [u32]) -> u32
 
 // The whole call, on a list by value.
 fn write_list(list: Breakpoints, n: u32, codes: &mut [u32], remainders: &mut [u32]) -> WordCount
-    requires { ⌜ Whole list ⌝ }
-    ensures { λ r. ⌜ (countOf r ≡ rampAnswer (listed list) n (length (now (codes .entry))) (length (now (remainders .entry)))) × (now (codes .exit) ≡ rampCodes (listed list) n (now (codes .entry)) (now (remainders .entry))) × (now (remainders .exit) ≡ rampRemainders (listed list) n (now (codes .entry)) (now (remainders .entry))) ⌝ }
+    requires { ⌜ WellFormed list ⌝ }
+    ensures { λ r. ⌜ (countOf r ≡ rampAnswer (listed list) n (length (now (codes .entry))) (length (now (remainders .entry)))) × (now (codes .exit) ≡ rampCodes (listed list) n (now (codes .entry)) (now (remainders .entry))) × (now (remainders .exit) ≡ rampRemainders (listed list) n (now (codes .entry)) (now (remainders .entry))) × ((words : ℕ) → countOf r ≡ wrote words → CodesInRange (listed list)) ⌝ }
 {
     let code_words = codes.len();
     let remainder_words = remainders.len();
@@ -274,7 +274,7 @@ pub fn write_ramp_by_value(
     codes: &mut [u32],
     remainders: &mut [u32],
 ) -> WordCount
-    ensures { λ r. ⌜ (countOf r ≡ rampAnswer (take count points) n (length (now (codes .entry))) (length (now (remainders .entry)))) × (now (codes .exit) ≡ rampCodes (take count points) n (now (codes .entry)) (now (remainders .entry))) × (now (remainders .exit) ≡ rampRemainders (take count points) n (now (codes .entry)) (now (remainders .entry))) ⌝ }
+    ensures { λ r. ⌜ (countOf r ≡ rampAnswer (take count points) n (length (now (codes .entry))) (length (now (remainders .entry)))) × (now (codes .exit) ≡ rampCodes (take count points) n (now (codes .entry)) (now (remainders .entry))) × (now (remainders .exit) ≡ rampRemainders (take count points) n (now (codes .entry)) (now (remainders .entry))) × ((words : ℕ) → countOf r ≡ wrote words → CodesInRange (take count points)) ⌝ }
 {
     let m = at_most_all(count);
     write_ramp(&points[..m], n, codes, remainders)

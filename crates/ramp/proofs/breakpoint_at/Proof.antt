@@ -1,7 +1,7 @@
 -- `ramp::breakpoint_at` meets its contract: a walk of its MIR, by hand. The place of `points[i]` is i * 8 past the slice's pointer. The slice is looked into, element i is taken out of the row,
 -- its struct is read whole and append back, and the token comes back. Of what the element owns, which can be copied, one copy goes back into the row and the other is the result's.
 -- Assumes nothing.
-use mathlib.Core.Path.{_≡_, refl, sym}
+use mathlib.Core.Path.{refl, sym}
 use Prim.Native.Nat.{ℕ, _<_, _^_, _*_}
 use native.Mathlib.Omega.{arith}
 use mathlib.Core.List.{List, [], _∷_}

@@ -7,7 +7,7 @@ use mathlib.Core.List.{List}
 use lib.IntN.{ℤ}
 use lib.ListN.{length, take, getD}
 use mir.Syntax.{w16}
-use mir.Val.{toZ, ofZ}
+use mir.Val.{SFits, toZ, ofZ}
 use mir.ValLaws.{toZ-ofZ}
 use borrow.Author.Needs.{needs}
 use Rattle.ramp.specs.declared.Breakpoint.{Breakpoint}
@@ -15,7 +15,7 @@ use Rattle.ramp.specs.declared.Breakpoints.{Breakpoints}
 use Rattle.ramp.specs.Interpolation.{codeBetween, remainderBetween, twosComplement}
 use Rattle.ramp.specs.Ramp.{none, codeWord, remainderWord}
 use Rattle.ramp.specs.Rules.{Rules}
-use Rattle.ramp.specs.Copying.{listed, Whole}
+use Rattle.ramp.specs.Copying.{listed, WellFormed}
 use Rattle.ramp.proofs.Words.{overwritten-length}
 use Rattle.ramp.proofs.Filling as filling
 use Rattle.ramp.proofs.Filling.{Going}
@@ -39,7 +39,7 @@ module _ (s : tie.Start Inv-loop μ-loop) where
   abbrev ds : List ℕ
   ds = s .args .remainders .now
 
-  abbrev whole : Whole list
+  abbrev whole : WellFormed list
   whole = s .pre .0
 
   abbrev depth : ℕ
@@ -78,19 +78,19 @@ mul-next c = search needs
 array-copy-out-next : tie.Need-array-copy-out-next Inv-loop μ-loop
 array-copy-out-next c = let h = small (c .before) in omega arith
 
-segment-requires : tie.Need-segment-requires Inv-loop μ-loop
-segment-requires c κs = let h = small (c .before .before) in omega arith
+segment-number-requires : tie.Need-segment-number-requires Inv-loop μ-loop
+segment-number-requires c κs = let h = small (c .before .before) in omega arith
 
--- the segment that `segment` found
-module _ (c : tie.After-segment Inv-loop μ-loop) where
+-- the segment that `segment_number` found
+module _ (c : tie.After-segment-number Inv-loop μ-loop) where
   abbrev head : tie.At-loop Inv-loop μ-loop
   head = c .before .before .before
 
-  found : c .segment .result + 1 ≤ 63
+  found : c .segment-number .result + 1 ≤ 63
   found =
       let a = head in
       let s = start a in
-      let h = filling.r-small (list s) (cs s) (ds s) (whole s) (depth s) (rules s) (a .loop .codes) (a .loop .remainders) (a .loop .k) (a .loop .i) (a .loop .inv) (c .before .before .loop-test .taken) (c .segment .result) (c .segment .ensures) in
+      let h = filling.r-small (list s) (cs s) (ds s) (whole s) (depth s) (rules s) (a .loop .codes) (a .loop .remainders) (a .loop .k) (a .loop .i) (a .loop .inv) (c .before .before .loop-test .taken) (c .segment-number .result) (c .segment-number .ensures) in
       omega arith
 
 mul-a : tie.Need-mul-a Inv-loop μ-loop
@@ -113,27 +113,33 @@ interpolate-requires c κs =
     let o = c .before .before .before .before in
     let a = head o in
     let s = start a in
-    filling.near (list s) (cs s) (ds s) (whole s) (depth s) (rules s) (a .loop .codes) (a .loop .remainders) (a .loop .k) (a .loop .i) (a .loop .inv) (o .before .before .loop-test .taken) (o .segment .result) (o .segment .ensures)
+    filling.near (list s) (cs s) (ds s) (whole s) (depth s) (rules s) (a .loop .codes) (a .loop .remainders) (a .loop .k) (a .loop .i) (a .loop .inv) (o .before .before .loop-test .taken) (o .segment-number .result) (o .segment-number .ensures)
 
 -- what `interpolate` says, of the breakpoints' own codes: the machine reads them back from their bits
 module _ (c : tie.After-interpolate Inv-loop μ-loop) where
-  abbrev place : tie.After-segment Inv-loop μ-loop
+  abbrev place : tie.After-segment-number Inv-loop μ-loop
   place = c .before .before .before .before .before
 
   abbrev from : Breakpoint
-  from = getD (list (start (head place)) .points) (place .segment .result) none
+  from = getD (list (start (head place)) .points) (place .segment-number .result) none
 
   abbrev to : Breakpoint
-  to = getD (list (start (head place)) .points) (place .segment .result + 1) none
+  to = getD (list (start (head place)) .points) (place .segment-number .result + 1) none
 
   abbrev i : ℕ
   i = head place .loop .i
 
+  from-fits : SFits w16 (from .code)
+  from-fits = record { sfits = c .before .before .struct-told .given .1 .0 .1 }
+
+  to-fits : SFits w16 (to .code)
+  to-fits = record { sfits = c .before .struct-told2 .given .1 .0 .1 }
+
   from-code : toZ w16 (ofZ w16 (from .code)) ≡ from .code
-  from-code = toZ-ofZ w16 (from .code) (record { sfits = c .before .before .struct-told .given .1 .0 .1 })
+  from-code = toZ-ofZ w16 (from .code) from-fits
 
   to-code : toZ w16 (ofZ w16 (to .code)) ≡ to .code
-  to-code = toZ-ofZ w16 (to .code) (record { sfits = c .before .struct-told2 .given .1 .0 .1 })
+  to-code = toZ-ofZ w16 (to .code) to-fits
 
   code-is : c .interpolate .result .code ≡ twosComplement (codeBetween (from .index) (from .code) (to .index) (to .code) i)
   code-is = c .interpolate .ensures .0 ∙ ap₂ (λ (s t : ℤ). twosComplement (codeBetween (from .index) s (to .index) t i)) from-code to-code
@@ -182,8 +188,8 @@ loop-again c =
     let o = place b in
     let a = head o in
     let s = start a in
-    filling.next (list s) (cs s) (ds s) (whole s) (depth s) (rules s) (a .loop .codes) (a .loop .remainders) (a .loop .k) (a .loop .i) (a .loop .inv) (o .before .before .loop-test .taken) (o .segment .result) (o .segment .ensures)
-    (b .interpolate .result .code) (b .interpolate .result .remainder) (c .mark-last .result) (code-is b) (remainder-is b) (c .mark-last .ensures)
+    filling.next (list s) (cs s) (ds s) (whole s) (depth s) (rules s) (a .loop .codes) (a .loop .remainders) (a .loop .k) (a .loop .i) (a .loop .inv) (o .before .before .loop-test .taken) (o .segment-number .result) (o .segment-number .ensures)
+    (b .interpolate .result .code) (b .interpolate .result .remainder) (c .mark-last .result) (from-fits b) (to-fits b) (code-is b) (remainder-is b) (c .mark-last .ensures)
 
 same-length : tie.Need-same-length Inv-loop μ-loop
 same-length c =
@@ -202,6 +208,7 @@ returns c =
       filling.ends (list s) (cs s) (ds s) (whole s) (depth s) (rules s) (a .loop .codes) (a .loop .remainders) (a .loop .k) (a .loop .i) (a .loop .inv) (c .loop-test .left),
       a .loop .inv .codes,
       a .loop .inv .remainders,
+      filling.in-range (list s) (cs s) (ds s) (whole s) (depth s) (rules s) (a .loop .codes) (a .loop .remainders) (a .loop .k) (a .loop .i) (a .loop .inv) (c .loop-test .left),
     )
 
 pub fill-spec : {M : Type 1} → statement M
@@ -217,7 +224,7 @@ fill-spec =
     add-next
     mul-next
     array-copy-out-next
-    segment-requires
+    segment-number-requires
     mul-a
     array-copy-out-a
     add-b

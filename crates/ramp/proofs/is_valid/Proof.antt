@@ -1,15 +1,14 @@
 -- `ramp::is_valid` meets its contract: each test that fails breaks a rule, and once all others hold the indices decide. Assumes nothing.
-use mathlib.Core.Path.{_≡_, sym, ap, _∙_}
-use Prim.Native.Nat.{ℕ, _-_, _≤_, _<_}
+use mathlib.Core.Path.{_≡_, sym, _∙_}
+use Prim.Native.Nat.{ℕ, _-_, _≤_}
 use native.Mathlib.Omega.{arith}
 use mathlib.Core.List.{List}
 use lib.ListN.{length}
 use borrow.Author.Needs.{needs}
 use Rattle.ramp.specs.declared.Breakpoint.{Breakpoint}
-use Rattle.ramp.specs.Ramp.{indexAt, lastIndex, isValid}
-use Rattle.ramp.specs.Rules.{Rules}
+use Rattle.ramp.specs.Ramp.{indexAt, lastIndex}
 use Rattle.ramp.specs.Copying.{listed}
-use Rattle.ramp.proofs.Validity.{valid-rising, broken}
+use Rattle.ramp.proofs.Validity.{valid-increasing, broken}
 use Rattle.ramp.proofs.Copies.{size-take, index-take, last-take}
 use Rattle.ramp.proofs.is_valid.Statement.{statement}
 use Rattle.ramp.proofs.is_valid.Tie as tie
@@ -73,8 +72,8 @@ returns-6 c = sym (broken _ _ _ _ (λ r. let h = r .codes in let t = c .if6 .tak
 returns-7 : tie.Need-returns-7
 returns-7 c = sym (broken _ _ _ _ (λ r. let h = r .remainders in let t = c .if7 .taken in omega arith))
 
-is-rising-requires : tie.Need-is-rising-requires
-is-rising-requires c κs = search needs
+is-increasing-requires : tie.Need-is-increasing-requires
+is-increasing-requires c κs = search needs
 
 returns-8 : tie.Need-returns-8
 returns-8 c =
@@ -86,8 +85,8 @@ returns-8 c =
     let few = s .pre .few in
     let b = c .before .before .before .if5 .left in
     let e = last s many in
-    c .is-rising .ensures
-    ∙ sym (valid-rising (ps s) _ _ _ (omega arith) (omega arith) (o .before .if2 .left) (o .if3 .left) (first s many ∙ l .if4 .left) (omega arith) (c .before .before .if6 .left) (c .before .if7 .left))
+    c .is-increasing .ensures
+    ∙ sym (valid-increasing (ps s) _ _ _ (omega arith) (omega arith) (o .before .if2 .left) (o .if3 .left) (first s many ∙ l .if4 .left) (omega arith) (c .before .before .if6 .left) (c .before .if7 .left))
 
 pub is-valid-spec : {M : Type 1} → statement M
 is-valid-spec =
@@ -104,5 +103,5 @@ is-valid-spec =
     returns-5
     returns-6
     returns-7
-    is-rising-requires
+    is-increasing-requires
     returns-8)

@@ -1,13 +1,12 @@
 -- `ramp::write_list` meets its contract. Assumes nothing.
-use mathlib.Core.Path.{_≡_, sym, ap, _∙_}
+use mathlib.Core.Path.{sym, ap, _∙_}
 use Prim.Native.Nat.{ℕ}
-use mathlib.Core.Bool.{true, false}
-use mathlib.Core.List.{List}
 use lib.ListN.{length}
 use borrow.Author.Needs.{needs}
 use Rattle.ramp.specs.Answers.{wrote}
 use Rattle.ramp.specs.Ramp.{codeWord, remainderWord, overwritten, rampAnswer, rampCodes, rampRemainders}
 use Rattle.ramp.specs.Copying.{listed}
+use Rattle.ramp.proofs.Range.{refused-wrote}
 use Rattle.ramp.proofs.Validity.{valid-rules}
 use Rattle.ramp.proofs.write_list.Statement.{statement}
 use Rattle.ramp.proofs.write_list.Tie as tie
@@ -37,11 +36,12 @@ returns c =
       simp e (ap wrote (w .0)),
       simp e (w .1 ∙ ap (λ (j : ℕ). overwritten (codeWord (listed (s .args .list))) j (s .args .codes .now)) (w .0)),
       simp e (w .2 ∙ ap (λ (j : ℕ). overwritten (remainderWord (listed (s .args .list))) j (s .args .remainders .now)) (w .0)),
+      (λ words a. w .3),
     )
 
 returns-2 : tie.Need-returns-2
 unfolding rampAnswer rampCodes rampRemainders
-returns-2 c = let e = sym (c .before .is-valid .ensures) ∙ c .if1 .left in (simp e, simp e, simp e)
+returns-2 c = let e = sym (c .before .is-valid .ensures) ∙ c .if1 .left in (simp e, simp e, simp e, (λ words a. absurd (refused-wrote 11 words a)))
 
 pub write-list-spec : {M : Type 1} → statement M
 write-list-spec =

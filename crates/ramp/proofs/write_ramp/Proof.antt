@@ -39,7 +39,7 @@ use denote.Triple.Statement.{Contract, Triple}
 use denote.Triple.Table.{entered, cited}
 use denote.Triple.Walked.{says, Stays, stay-none, stay-none-slice, gave-slice, walkOf, Walks, ends-at, walked, goes-none, goes-none-slice, goes-gave-slice, walk-meets}
 use denote.Exit.{yes}
-use Rattle.ramp.specs.Copying.{copied, copyCount, listed, Whole}
+use Rattle.ramp.specs.Copying.{copied, copyCount, listed, WellFormed}
 use Rattle.ramp.specs.declared.Breakpoint.{Breakpoint}
 use Rattle.ramp.specs.declared.WordCount.{WordCount}
 use Rattle.ramp.specs.declared.Breakpoints.{Breakpoints}
@@ -148,7 +148,7 @@ module _ {M : Type 1} (𝓤 : URA M) (H : Heap 𝓤) (A : Atoms 𝓤) (W : Given
   abbrev asked : Breakpoints → Val → Fml
   asked t v = owns (R.the-row ∷ u32 ∷ MutSlice (named 0) κ₁ u32 ∷ MutSlice (named 1) κ₂ u32 ∷ []) (passed t) (v ∷ [], (vint w32 n ∷ [], (s₁ ∷ [], (s₂ ∷ [], tt))))
 
-  goes-writing : (t : Breakpoints) (v : Val) → Whole t → ent 𝓤 (sep 𝓤 (sep 𝓤 (A .lft κ₁ q₁) (sep 𝓤 (A .lft κ₂ q₂) (sem 𝓤 H A ftrue))) (sem 𝓤 H A (asked t v))) (Writing 𝓤 H A mem run .pre (to-writing t v))
+  goes-writing : (t : Breakpoints) (v : Val) → WellFormed t → ent 𝓤 (sep 𝓤 (sep 𝓤 (A .lft κ₁ q₁) (sep 𝓤 (A .lft κ₂ q₂) (sem 𝓤 H A ftrue))) (sem 𝓤 H A (asked t v))) (Writing 𝓤 H A mem run .pre (to-writing t v))
   goes-writing t v l = qed W ((‵ (flft κ₁ q₁) ⊛ (‵ (flft κ₂ q₂) ⊛ ‵ ftrue)) ∷ ‵ (asked t v) ∷ []) ∵ says ! l $ frame ! $ done !
 
   abbrev Last : Type 0

@@ -1,4 +1,4 @@
--- `ramp::is_rising` meets its contract. The loop's invariant: the first k steps rise. The measure is what is left of the steps. Assumes nothing.
+-- `ramp::is_increasing` meets its contract. The loop's invariant: the first k steps rise. The measure is what is left of the steps. Assumes nothing.
 use mathlib.Core.Path.{_≡_, sym, subst}
 use Prim.Native.Nat.{ℕ, suc, _-_, _≤_, _<_}
 use native.Mathlib.Nat.{eq-or-lt-of-le}
@@ -10,10 +10,10 @@ use lib.ListN.{length, take}
 use borrow.Author.Needs.{needs}
 use Rattle.ramp.specs.declared.Breakpoint.{Breakpoint}
 use Rattle.ramp.specs.Ramp.{indexAt}
-use Rattle.ramp.proofs.Rising.{rises-all, rises-not}
+use Rattle.ramp.proofs.Increasing.{increasing-all, increasing-not}
 use Rattle.ramp.proofs.Copies.{size-take, index-take}
-use Rattle.ramp.proofs.is_rising.Statement.{statement}
-use Rattle.ramp.proofs.is_rising.Tie as tie
+use Rattle.ramp.proofs.is_increasing.Statement.{statement}
+use Rattle.ramp.proofs.is_increasing.Tie as tie
 
 abbrev Steps : List Breakpoint → ℕ → Type 0
 Steps points k = (j : ℕ) → j < k → indexAt points j < indexAt points (suc j)
@@ -68,11 +68,13 @@ loop-less c = search needs
 loop-again : tie.Need-loop-again Inv-loop μ-loop
 loop-again c =
     let o = c .before .before .before .before .before .before in
-    let k = o .loop .k in
-    (search needs, (λ j l. ⊎-elim
-    (λ (e : j ≡ k). subst (λ (m : ℕ). indexAt (points o) m < indexAt (points o) (suc m)) (sym e) (subst (λ (m : ℕ). indexAt (points o) k < indexAt (points o) m) (add-one k) (c .if1 .taken)))
-    (λ (h : j < k). o .loop .inv .1 j h)
-    (eq-or-lt-of-le (omega arith))))
+    let k = o .loop .k in (
+      search needs,
+      (λ j l. ⊎-elim
+          (λ (e : j ≡ k). subst (λ (m : ℕ). indexAt (points o) m < indexAt (points o) (suc m)) (sym e) (subst (λ (m : ℕ). indexAt (points o) k < indexAt (points o) m) (add-one k) (c .if1 .taken)))
+          (λ (h : j < k). o .loop .inv .1 j h)
+          (eq-or-lt-of-le (omega arith))),
+    )
 
 returns : tie.Need-returns Inv-loop μ-loop
 returns c =
@@ -80,7 +82,7 @@ returns c =
     let k = o .loop .k in
     let l = c .before .before .before .before .before .loop-test .taken in
     let z = size o in
-    sym (rises-not (take (count o) (points o)) k (omega arith)
+    sym (increasing-not (take (count o) (points o)) k (omega arith)
     (subst (λ (m : ℕ). m ≤ indexAt (take (count o) (points o)) k) (sym (index-take (points o) (count o) (suc k) (omega arith)))
     (subst (λ (m : ℕ). indexAt (points o) (suc k) ≤ m) (sym (index-take (points o) (count o) k (omega arith)))
     (subst (λ (m : ℕ). indexAt (points o) m ≤ indexAt (points o) k) (add-one k) (c .if1 .left)))))
@@ -90,13 +92,13 @@ returns-2 c =
     let o = c .before in
     let l = c .loop-test .left in
     let z = size o in
-    sym (rises-all (take (count o) (points o)) (λ k h.
+    sym (increasing-all (take (count o) (points o)) (λ k h.
     subst (λ (m : ℕ). m < indexAt (take (count o) (points o)) (suc k)) (sym (index-take (points o) (count o) k (omega arith)))
     (subst (λ (m : ℕ). indexAt (points o) k < m) (sym (index-take (points o) (count o) (suc k) (omega arith)))
     (o .loop .inv .1 k (omega arith)))))
 
-pub is-rising-spec : {M : Type 1} → statement M
-is-rising-spec =
+pub is-increasing-spec : {M : Type 1} → statement M
+is-increasing-spec =
     tie.close
     (tie.spec
     Inv-loop

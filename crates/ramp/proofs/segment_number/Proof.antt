@@ -1,0 +1,17 @@
+-- `ramp::segment_number` meets its contract. Assumes nothing.
+use borrow.Author.Needs.{needs}
+use borrow.Author.Tests.{lt-ltb, le-ltb}
+use Rattle.ramp.proofs.segment_number.Statement.{statement}
+use Rattle.ramp.proofs.segment_number.Tie as tie
+
+add-result : tie.Need-add-result
+add-result c = search needs
+
+returns : tie.Need-returns
+returns c = simp (lt-ltb _ _ (c .if1 .taken))
+
+returns-2 : tie.Need-returns-2
+returns-2 c = simp (le-ltb _ _ (c .if1 .left))
+
+pub segment-number-spec : {M : Type 1} → statement M
+segment-number-spec = tie.close (tie.spec add-result returns returns-2)
