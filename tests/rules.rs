@@ -50,8 +50,9 @@ const RECORDED: &[(&str, &str, usize, &str)] = &[
     (RULES, "card 1", 1096, "cb67ec1f20e0ef75abf3acd962853cf5ae815772bf67221802b1f90b0cc82c4e"),
     (RULES, "card 2", 578, "a2db8f172be354d06e8417114973b58e127b28f137c6d03222f5c86e477c6930"),
     (RULES, "card 3", 387, "9efba1c5c4f30da75ed0aa8e571a164f74016aa098153631a7c7bb34f2a8e345"),
-    (DECISIONS, "document 01", 8655, "bd57d0a3a21710dba55ef70f652aaa681379ff54464a4877745294b0ca4646e8"),
-    (DECISIONS, "document 02", 1697, "69121ea6726c27864612f36569afa727d60ad79aa02d934e522ec74238a72044"),
+    (RULES, "card 4", 1041, "d3df248576275e65ce8feac796f94d0427458e15a884c59fbc5c8dd5c96cf8a7"),
+    (DECISIONS, "document 01", 8847, "260bc48a607fb488637b77d44707885a39de1e572f348439fc42ebfdd222e99b"),
+    (DECISIONS, "document 02", 2178, "610b47b6bdcc045af0a993ea3a078ce23f61ea985e4b5c84633ee7e0161e64d8"),
 ];
 
 // The entries of DECISIONS.md that a page cites: "entry D1", "Entry D1", "entries D1 (..) and D2", "entries D1 to D2".
