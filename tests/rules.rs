@@ -51,7 +51,7 @@ const RECORDED: &[(&str, &str, usize, &str)] = &[
     (RULES, "card 2", 578, "a2db8f172be354d06e8417114973b58e127b28f137c6d03222f5c86e477c6930"),
     (RULES, "card 3", 387, "9efba1c5c4f30da75ed0aa8e571a164f74016aa098153631a7c7bb34f2a8e345"),
     (RULES, "card 4", 1041, "d3df248576275e65ce8feac796f94d0427458e15a884c59fbc5c8dd5c96cf8a7"),
-    (DECISIONS, "document 01", 8847, "260bc48a607fb488637b77d44707885a39de1e572f348439fc42ebfdd222e99b"),
+    (DECISIONS, "document 01", 8985, "d27a7ea7220fcdc064c30e8813ee3d9e0d074893922c3970e4fb9d6e29e26e14"),
     (DECISIONS, "document 02", 2178, "610b47b6bdcc045af0a993ea3a078ce23f61ea985e4b5c84633ee7e0161e64d8"),
 ];
 

@@ -11,17 +11,17 @@ use lib.ListN.{length, getD, set, take, length-set, length-take}
 use lib.Seq.{getD-take, take-suc, take-suc-set, take-length}
 use Rattle.ramp.specs.declared.Breakpoint.{Breakpoint}
 use Rattle.ramp.specs.declared.Breakpoints.{Breakpoints}
-use Rattle.ramp.specs.Ramp.{none, indexAt, lastIndex}
+use Rattle.ramp.specs.Ramp.{zeroPoint, indexAt, lastIndex}
 use Rattle.ramp.specs.Copying.{emptyList, appended, copied, copyCount, listed, WellFormed}
 
 -- ---- Copying, one by one
 
 pub copied-next :
-    (ps : List Breakpoint) (l r : Breakpoints) (b : Breakpoint) → l ≡ copied ps (l .count) → b ≡ getD ps (l .count) none → r ≡ appended l b
+    (ps : List Breakpoint) (l r : Breakpoints) (b : Breakpoint) → l ≡ copied ps (l .count) → b ≡ getD ps (l .count) zeroPoint → r ≡ appended l b
     → r ≡ copied ps (r .count)
 unfolding copied
 copied-next ps l r b e₁ e₂ e₃ =
-    e₃ ∙ ap (λ (p : Breakpoint). appended l p) e₂ ∙ ap (λ (u : Breakpoints). appended u (getD ps (l .count) none)) e₁
+    e₃ ∙ ap (λ (p : Breakpoint). appended l p) e₂ ∙ ap (λ (u : Breakpoints). appended u (getD ps (l .count) zeroPoint)) e₁
     ∙ ap (copied ps) (sym (ap (λ (u : Breakpoints). u .count) e₃ ∙ add-one (l .count)))
 
 pub copied-none : (ps : List Breakpoint) (l : Breakpoints) → l ≡ emptyList → l ≡ copied ps (l .count)
@@ -52,10 +52,10 @@ copied-points ps zero h g = refl
 copied-points ps (suc k) h g =
     let e = copied-count ps k in
     let l = copied-length ps k in
-    ap (λ (j : ℕ). take (suc k) (set (copied ps k .points) j (getD ps k none))) e
-    ∙ take-suc-set (copied ps k .points) k (getD ps k none) (omega arith)
-    ∙ ap (λ (xs : List Breakpoint). xs ++ (getD ps k none ∷ [])) (copied-points ps k (omega arith) (omega arith))
-    ∙ sym (take-suc ps k none (omega arith))
+    ap (λ (j : ℕ). take (suc k) (set (copied ps k .points) j (getD ps k zeroPoint))) e
+    ∙ take-suc-set (copied ps k .points) k (getD ps k zeroPoint) (omega arith)
+    ∙ ap (λ (xs : List Breakpoint). xs ++ (getD ps k zeroPoint ∷ [])) (copied-points ps k (omega arith) (omega arith))
+    ∙ sym (take-suc ps k zeroPoint (omega arith))
 
 -- ---- The whole list
 
@@ -86,7 +86,7 @@ pub size-take : (xs : List Breakpoint) (k : ℕ) → length xs ≡ 64 → k ≤ 
 size-take xs k l h = length-take k xs ∙ min-eq-left (omega arith)
 
 pub index-take : (xs : List Breakpoint) (k j : ℕ) → j < k → indexAt (take k xs) j ≡ indexAt xs j
-index-take xs k j h = ap (λ (b : Breakpoint). b .index) (getD-take k xs j none h)
+index-take xs k j h = ap (λ (b : Breakpoint). b .index) (getD-take k xs j zeroPoint h)
 
 pub last-take : (xs : List Breakpoint) (k : ℕ) → length xs ≡ 64 → k ≤ 64 → 0 < k → lastIndex (take k xs) ≡ indexAt xs (k - 1)
 last-take xs k l h z = ap (λ (n : ℕ). indexAt (take k xs) (n - 1)) (size-take xs k l h) ∙ index-take xs k (k - 1) (omega arith)

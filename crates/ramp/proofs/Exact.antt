@@ -44,11 +44,6 @@ diff-le (pos a) (negsuc c) p r b h k l = absurd (omega arith)
 diff-le (negsuc a) (pos c) p r b h k l = record { le = tt }
 diff-le (negsuc a) (negsuc c) p r b h k l = record { le = le→leb c a (omega arith) }
 
--- a code in range, in offset binary
-pub offset-in : (z : ℤ) → negsuc 32767 ≤ℤ z → z ≤ℤ pos 32767 → (u : ℕ) × Diff z u 32768 × (u < 65536)
-offset-in (pos a) g h = let l = leb→le a 32767 (h .le) in (a + 32768, omega arith, omega arith)
-offset-in (negsuc a) g h = let l = leb→le a 32767 (g .le) in (32767 - a, omega arith, omega arith)
-
 module _ (p : ℕ) (s : ℤ) (q : ℕ) (t : ℤ) (apart : p < q) where
   abbrev w : ℕ
   w = q - p

@@ -15,7 +15,7 @@ use mir.Val.{SFits}
 use Rattle.ramp.specs.declared.Breakpoint.{Breakpoint}
 use Rattle.ramp.specs.declared.Breakpoints.{Breakpoints}
 use Rattle.ramp.specs.Interpolation.{twosComplement}
-use Rattle.ramp.specs.Ramp.{none, Segment, segment, segmentOf, codeIn, remainderIn, indexAt, codeAt, lastIndex, codeWord, remainderWord, overwritten}
+use Rattle.ramp.specs.Ramp.{zeroPoint, Segment, segment, segmentOf, codeIn, remainderIn, indexAt, codeAt, lastIndex, codeWord, remainderWord, overwritten}
 use Rattle.ramp.specs.Rules.{CodesInRange, Rules}
 use Rattle.ramp.specs.Copying.{listed, WellFormed, Brackets}
 use Rattle.ramp.proofs.Range.{range-of}
@@ -110,19 +110,19 @@ module _ (l : Breakpoints) (cs ds : List ℕ) (whole : WellFormed l) (n : ℕ) (
       in-count = let m = found .more in let z = size in omega arith
 
       -- the neighbours, in the array and in the list
-      from-is : getD ps r none ≡ getD xs r none
-      from-is = let m = in-count in getD-take (l .count) xs r none (omega arith)
+      from-is : getD ps r zeroPoint ≡ getD xs r zeroPoint
+      from-is = let m = in-count in getD-take (l .count) xs r zeroPoint (omega arith)
 
-      to-is : getD ps (r + 1) none ≡ getD xs (r + 1) none
-      to-is = getD-take (l .count) xs (r + 1) none in-count
+      to-is : getD ps (r + 1) zeroPoint ≡ getD xs (r + 1) zeroPoint
+      to-is = getD-take (l .count) xs (r + 1) zeroPoint in-count
 
       abbrev here : Segment
-      here = segment (getD xs r none) (getD xs (r + 1) none)
+      here = segment (getD xs r zeroPoint) (getD xs (r + 1) zeroPoint)
 
       here-is : segmentOf ps i ≡ here
       here-is =
-          segment-at ps r i found ∙ ap (λ (p : Breakpoint). segment p (getD ps (r + 1) none)) from-is
-          ∙ ap (λ (p : Breakpoint). segment (getD xs r none) p) to-is
+          segment-at ps r i found ∙ ap (λ (p : Breakpoint). segment p (getD ps (r + 1) zeroPoint)) from-is
+          ∙ ap (λ (p : Breakpoint). segment (getD xs r zeroPoint) p) to-is
 
       pub near : Brackets (indexAt xs r) (indexAt xs (r + 1)) i
       near =

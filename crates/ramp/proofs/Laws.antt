@@ -4,32 +4,31 @@ use Prim.Native.Nat.{ℕ, zero, suc, _+_, _-_, _*_, _/_, _%_, _≤_, _<_}
 use native.Mathlib.Nat.{eq-or-lt-of-le}
 use native.Mathlib.Numerals.{add-one}
 use native.Mathlib.Omega.{arith}
-use mathlib.Core.Bool.{Bool, true, false, cond}
+use mathlib.Core.Bool.{Bool, true, false, cond, true≢false}
 use mathlib.Core.Logic.{⊎-elim}
 use mathlib.Core.List.{List}
 use lib.Dec.{ltb, eqb, eqb·suc-suc}
 use lib.IntN.{ℤ, pos, negsuc}
 use lib.ListN.{length, getD}
-use borrow.Author.Tests.{lt-ltb, le-ltb}
 use Rattle.ramp.specs.declared.Breakpoint.{Breakpoint}
 use Rattle.ramp.specs.Answers.{Answer, wrote, refused}
 use Rattle.ramp.specs.Interpolation.{twosComplement}
-use Rattle.ramp.specs.Ramp.{none, Segment, segment, segmentOf, codeIn, remainderIn, indexAt, codeAt, lastIndex, isValid, codeWord, remainderWord, overwritten, rampAnswer, rampCodes, rampRemainders}
+use Rattle.ramp.specs.Ramp.{zeroPoint, Segment, segment, segmentOf, codeIn, remainderIn, indexAt, codeAt, lastIndex, isValid, codeWord, remainderWord, overwritten, rampAnswer, rampCodes, rampRemainders}
 use Rattle.ramp.specs.Rules.{CodesInRange, Rules}
 use Rattle.ramp.specs.Laws.{Between, signed, Exact, Written, RampWritten, RampRefused}
 use Rattle.ramp.proofs.Signs.{Diff}
-use Rattle.ramp.proofs.Range.{wordsOf, false-true}
-use Rattle.ramp.proofs.Rounding.{only}
-use Rattle.ramp.proofs.Exact.{offset-in, at-start, at-end, offset-of-code, exact-of}
+use Rattle.ramp.proofs.Range.{offset-in, wordsPlusOne}
+use Rattle.ramp.proofs.Rounding.{only, read-bits, bits-small}
+use Rattle.ramp.proofs.Exact.{at-start, at-end, offset-of-code, exact-of}
 use Rattle.ramp.proofs.Validity.{valid-rules, rules-valid}
 use Rattle.ramp.proofs.Segments.{InSegment, segment-at, near-of, located, in-segment, in-first, below-last}
 use Rattle.ramp.proofs.Words.{overwritten-length, overwritten-below, overwritten-past}
 
 -- ---- What an answer says
 
-abbrev numberOf : Answer → ℕ
-numberOf (wrote k) = 0
-numberOf (refused k) = k
+abbrev refusedNumber : Answer → ℕ
+refusedNumber (wrote k) = 0
+refusedNumber (refused k) = k
 
 module _ (ps : List Breakpoint) (n c d : ℕ) where
   wrote-valid : (words : ℕ) → rampAnswer ps n c d ≡ wrote words → (isValid ps n c d ≡ true) × (words ≡ lastIndex ps + 1)
@@ -37,28 +36,18 @@ module _ (ps : List Breakpoint) (n c d : ℕ) where
   wrote-valid words e = go (isValid ps n c d) e
     where
       go : (b : Bool) → cond b (wrote (lastIndex ps + 1)) (refused 11) ≡ wrote words → (b ≡ true) × (words ≡ lastIndex ps + 1)
-      go true f = let h = ap wordsOf f in (refl, omega arith)
-      go false f = let h = ap wordsOf f in absurd (omega arith)
+      go true f = let h = ap wordsPlusOne f in (refl, omega arith)
+      go false f = let h = ap wordsPlusOne f in absurd (omega arith)
 
   refused-invalid : (number : ℕ) → rampAnswer ps n c d ≡ refused number → (isValid ps n c d ≡ false) × (number ≡ 11)
   unfolding rampAnswer
   refused-invalid number e = go (isValid ps n c d) e
     where
       go : (b : Bool) → cond b (wrote (lastIndex ps + 1)) (refused 11) ≡ refused number → (b ≡ false) × (number ≡ 11)
-      go true f = let h = ap wordsOf f in absurd (omega arith)
-      go false f = (refl, sym (ap numberOf f))
+      go true f = let h = ap wordsPlusOne f in absurd (omega arith)
+      go false f = (refl, sym (ap refusedNumber f))
 
 -- ---- A word's code, and its high bits
-
-read-bits : (z : ℤ) (m : ℕ) → Diff z m 32768 → m < 65536 → cond (ltb (twosComplement z) 32768) (pos (twosComplement z)) (negsuc (65535 - twosComplement z)) ≡ z
-unfolding twosComplement
-read-bits (pos a) m h l = simp (lt-ltb a 32768 (omega arith))
-read-bits (negsuc a) m h l = simp (le-ltb (65535 - a) 32768 (omega arith)) (ap negsuc (omega arith))
-
-bits-small : (z : ℤ) (m : ℕ) → Diff z m 32768 → m < 65536 → twosComplement z < 65536
-unfolding twosComplement
-bits-small (pos a) m h l = omega arith
-bits-small (negsuc a) m h l = omega arith
 
 module _ (z : ℤ) (m : ℕ) (h : Diff z m 32768) (l : m < 65536) (mark : ℕ) where
   parts : ((twosComplement z + mark * 65536) / 65536 ≡ mark) × ((twosComplement z + mark * 65536) % 65536 ≡ twosComplement z)
@@ -86,10 +75,10 @@ module _ (ps : List Breakpoint) (n : ℕ) (codes remainders : List ℕ) (range :
 
   -- the neighbours k and k + 1
   abbrev seg : ℕ → Segment
-  seg k = segment (getD ps k none) (getD ps (suc k) none)
+  seg k = segment (getD ps k zeroPoint) (getD ps (suc k) zeroPoint)
 
   seg-at : (k i : ℕ) → InSegment ps k i → segmentOf ps i ≡ seg k
-  seg-at k i s = segment-at ps k i s ∙ ap (λ (j : ℕ). segment (getD ps k none) (getD ps j none)) (add-one k)
+  seg-at k i s = segment-at ps k i s ∙ ap (λ (j : ℕ). segment (getD ps k zeroPoint) (getD ps j zeroPoint)) (add-one k)
 
   between-of : (k i : ℕ) → InSegment ps k i → Between ps k i
   between-of k i s =
@@ -215,11 +204,11 @@ module _ (ps : List Breakpoint) (n : ℕ) (codes remainders : List ℕ) (range :
 
 pub ramp-written : RampWritten
 unfolding rampCodes rampRemainders
-ramp-written ps n words codes remainders range e =
+ramp-written ps n words codes remainders e =
     let a = wrote-valid ps n (length codes) (length remainders) words e in
     let rules = valid-rules ps n (length codes) (length remainders) (a .0) in (
       rules,
-      subst (λ (w : ℕ). Written ps w codes remainders (rampCodes ps n codes remainders) (rampRemainders ps n codes remainders)) (sym (a .1))
+      λ range. subst (λ (w : ℕ). Written ps w codes remainders (rampCodes ps n codes remainders) (rampRemainders ps n codes remainders)) (sym (a .1))
           (simp (a .0) (all-written ps n codes remainders range rules)),
     )
 
@@ -227,4 +216,4 @@ pub ramp-refused : RampRefused
 unfolding rampCodes rampRemainders
 ramp-refused ps n number codes remainders e =
     let a = refused-invalid ps n (length codes) (length remainders) number e in
-    (a .1, (λ r. false-true (sym (a .0) ∙ rules-valid ps n (length codes) (length remainders) r)), simp (a .0), simp (a .0))
+    (a .1, (λ r. true≢false (sym (rules-valid ps n (length codes) (length remainders) r) ∙ a .0)), simp (a .0), simp (a .0))

@@ -1,6 +1,6 @@
 pub mod Tests
-pub mod Range
 pub mod Signs
+pub mod Range
 pub mod Rounding
 pub mod Increasing
 pub mod Validity

@@ -3,10 +3,10 @@ use mathlib.Core.Path.{_≡_, refl, sym, ap, subst, _∙_}
 use Prim.Native.Nat.{ℕ, suc, _+_, _-_, _*_, _/_, _%_, _≤_, _<_}
 use native.Mathlib.Nat.{add-mul, mod-lt, div-add-mod'}
 use native.Mathlib.Omega.{arith}
-use mathlib.Core.Bool.{Bool, true, false, not, cond}
+use mathlib.Core.Bool.{Bool, true, false, not}
 use mathlib.Core.List.{List}
 use lib.Dec.{T, ltb, ltb→lt, nltb→le, lit<}
-use lib.IntN.{ℤ, pos, negsuc, _+ℤ_, _*ℤ_}
+use lib.IntN.{ℤ, pos, _+ℤ_, _*ℤ_}
 use lib.ListN.{getD}
 use lib.Seq.{ext-getD}
 use Rattle.ramp.specs.declared.Breakpoint.{Breakpoint}
@@ -14,7 +14,7 @@ use Rattle.ramp.specs.Interpolation.{twosComplement}
 use Rattle.ramp.specs.Ramp.{indexAt}
 use Rattle.ramp.specs.Laws.{signed, Written, WrittenOnly}
 use Rattle.ramp.proofs.Signs.{Diff, over, under, diff-own, diff-add, diff-mul, diff-one, diff-same}
-use Rattle.ramp.proofs.Rounding.{only}
+use Rattle.ramp.proofs.Rounding.{only, bits-of}
 
 -- a code and a remainder below the width are the only ones that restore a number
 module _ (y z : ℤ) (w a b : ℕ) (la : a < w) (lb : b < w) (e : y *ℤ pos w +ℤ pos a ≡ z *ℤ pos w +ℤ pos b) where
@@ -44,14 +44,6 @@ module _ (y z : ℤ) (w a b : ℕ) (la : a < w) (lb : b < w) (e : y *ℤ pos w +
   remainder-only = parts .1
 
 -- a word is its code and its high bits
-bits-of : (b : ℕ) → b < 65536 → twosComplement (cond (ltb b 32768) (pos b) (negsuc (65535 - b))) ≡ b
-unfolding twosComplement
-bits-of b l = go (ltb b 32768)
-  where
-    go : (t : Bool) → twosComplement (cond t (pos b) (negsuc (65535 - b))) ≡ b
-    go true = refl
-    go false = omega arith
-
 word-only : (x y : ℕ) → signed x ≡ signed y → x / 65536 ≡ y / 65536 → x ≡ y
 word-only x y e h =
     let low : x % 65536 ≡ y % 65536 = sym (bits-of (x % 65536) (mod-lt x (lit< tt))) ∙ ap twosComplement e ∙ bits-of (y % 65536) (mod-lt y (lit< tt)) in

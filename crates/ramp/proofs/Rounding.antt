@@ -1,12 +1,13 @@
 -- Rounding down, over the natural numbers. In offset binary, s = u − 32768 and t = v − 32768, the code at d of w steps from s to t is the whole part of the
 -- weighted mean (u * (w − d) + v * d) / w, and the remainder is what that division leaves. Assumes nothing.
-use mathlib.Core.Path.{_≡_, sym, ap, _∙_}
+use mathlib.Core.Path.{_≡_, refl, sym, ap, _∙_}
 use Prim.Native.Nat.{ℕ, suc, _+_, _-_, _*_, _/_, _%_, _≤_, _<_}
 use native.Mathlib.Nat.{add-mul, mul-add, mod-lt, mod-eq-of-lt, div-add-mod', div-eq-of-lt-le, mul-add-mod-self-right, mul-le-mul-right, lt-of-mul-lt-mul-right, div-lt-iff-lt-mul, le-div-iff-mul-le}
 use native.Mathlib.Omega.{arith}
+use mathlib.Core.Bool.{Bool, true, false, cond}
+use lib.Dec.{ltb}
 use lib.IntN.{ℤ, pos, negsuc, _+ℤ_, _-ℤ_, _*ℤ_}
-use mir.Syntax.{w16}
-use mir.Val.{SFits}
+use borrow.Author.Tests.{lt-ltb, le-ltb}
 use Rattle.ramp.specs.Interpolation.{floorDiv, floorMod, twosComplement}
 use Rattle.ramp.proofs.Signs.{Diff, diff-add, diff-sub, diff-mul, diff-to}
 
@@ -85,13 +86,8 @@ module _ (u v d w : ℕ) (D : d ≤ w) where
       let f = floor-of x w mean u W (diff-to x ((v + 32768) * d) ((32768 + u) * d) mean (u * w) (diff-mul (t -ℤ s) d (v + 32768) (32768 + u) (diff-sub t s v 32768 u 32768 ht hs)) (omega arith)) in
       (diff-to (s +ℤ floorDiv x w) (u + mean / w) (32768 + u) (mean / w) 32768 (diff-add s (floorDiv x w) u 32768 (mean / w) u hs (f .0)) (omega arith), f .1)
 
--- ---- A code in offset binary
+-- ---- The 16 bits of a code in offset binary
 
-pub offset-of : (z : ℤ) → SFits w16 z → (r : ℕ) × Diff z r 32768 × (r < 65536)
-offset-of (pos n) f = let h : n < 32768 = f .sfits in (n + 32768, omega arith, omega arith)
-offset-of (negsuc n) f = let h : n < 32768 = f .sfits in (32768 - suc n, omega arith, omega arith)
-
--- its 16 bits
 pub bits-low : (z : ℤ) (c : ℕ) → Diff z c 32768 → c < 32768 → twosComplement z ≡ c + 32768
 unfolding twosComplement
 bits-low (pos n) c h l = absurd (omega arith)
@@ -101,3 +97,22 @@ pub bits-high : (z : ℤ) (c : ℕ) → Diff z c 32768 → 32768 ≤ c → twosC
 unfolding twosComplement
 bits-high (pos n) c h l = omega arith
 bits-high (negsuc n) c h l = absurd (omega arith)
+
+-- read back, either way round
+pub read-bits : (z : ℤ) (m : ℕ) → Diff z m 32768 → m < 65536 → cond (ltb (twosComplement z) 32768) (pos (twosComplement z)) (negsuc (65535 - twosComplement z)) ≡ z
+unfolding twosComplement
+read-bits (pos a) m h l = simp (lt-ltb a 32768 (omega arith))
+read-bits (negsuc a) m h l = simp (le-ltb (65535 - a) 32768 (omega arith)) (ap negsuc (omega arith))
+
+pub bits-small : (z : ℤ) (m : ℕ) → Diff z m 32768 → m < 65536 → twosComplement z < 65536
+unfolding twosComplement
+bits-small (pos a) m h l = omega arith
+bits-small (negsuc a) m h l = omega arith
+
+pub bits-of : (b : ℕ) → b < 65536 → twosComplement (cond (ltb b 32768) (pos b) (negsuc (65535 - b))) ≡ b
+unfolding twosComplement
+bits-of b l = go (ltb b 32768)
+  where
+    go : (t : Bool) → twosComplement (cond t (pos b) (negsuc (65535 - b))) ≡ b
+    go true = refl
+    go false = omega arith

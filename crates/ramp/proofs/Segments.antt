@@ -11,13 +11,13 @@ use lib.Dec.{T, ltb, ltb→lt, nltb→le}
 use lib.ListN.{length, getD}
 use borrow.Author.Tests.{le-leb, lt-leb}
 use Rattle.ramp.specs.declared.Breakpoint.{Breakpoint}
-use Rattle.ramp.specs.Ramp.{none, Segment, segment, segmentFrom, segmentOf, indexAt, lastIndex}
+use Rattle.ramp.specs.Ramp.{zeroPoint, Segment, segment, segmentFrom, segmentOf, indexAt, lastIndex}
 use Rattle.ramp.specs.Rules.{Rules}
 use Rattle.ramp.specs.Copying.{Brackets}
 
 -- the neighbours k and k + 1
 abbrev pub neighbours : List Breakpoint → ℕ → Segment
-neighbours ps k = segment (getD ps k none) (getD ps (k + 1) none)
+neighbours ps k = segment (getD ps k zeroPoint) (getD ps (k + 1) zeroPoint)
 
 -- i stands in segment k: past the breakpoints up to k, the first apart, and not past the next
 pub record InSegment (ps : List Breakpoint) (k i : ℕ) : Type 0 where
@@ -33,7 +33,7 @@ pub record Reached (ps : List Breakpoint) (k i : ℕ) : Type 0 where
 
 segment-from :
     (a b : Breakpoint) (ps : List Breakpoint) (k i : ℕ) → suc k < length (a ∷ b ∷ ps) → ((j : ℕ) → 1 ≤ j → j ≤ k → indexAt (a ∷ b ∷ ps) j < i)
-    → i ≤ indexAt (a ∷ b ∷ ps) (suc k) → segmentFrom a b ps i ≡ segment (getD (a ∷ b ∷ ps) k none) (getD (b ∷ ps) k none)
+    → i ≤ indexAt (a ∷ b ∷ ps) (suc k) → segmentFrom a b ps i ≡ segment (getD (a ∷ b ∷ ps) k zeroPoint) (getD (b ∷ ps) k zeroPoint)
 unfolding segmentFrom
 segment-from a b [] zero i m p e = refl
 segment-from a b [] (suc k) i m p e = absurd (omega arith)
@@ -48,7 +48,7 @@ segment-at [] k i s = let h = s .more in absurd (omega arith)
 segment-at (a ∷ []) k i s = let h = s .more in absurd (omega arith)
 segment-at (a ∷ b ∷ ps) k i s =
     segment-from a b ps k i (let h = s .more in omega arith) (s .past) (subst (λ (n : ℕ). i ≤ indexAt (a ∷ b ∷ ps) n) (add-one k) (s .end))
-    ∙ ap (λ (n : ℕ). segment (getD (a ∷ b ∷ ps) k none) (getD (a ∷ b ∷ ps) n none)) (sym (add-one k))
+    ∙ ap (λ (n : ℕ). segment (getD (a ∷ b ∷ ps) k zeroPoint) (getD (a ∷ b ∷ ps) n zeroPoint)) (sym (add-one k))
 
 module _ (ps : List Breakpoint) (n c d : ℕ) (rules : Rules ps n c d) where
   pub rise-at : (k : ℕ) → k + 1 < length ps → indexAt ps k < indexAt ps (k + 1)

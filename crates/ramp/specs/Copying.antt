@@ -7,13 +7,13 @@ use lib.Dec.{leb}
 use lib.ListN.{length, getD, set, take, replicate}
 use Rattle.ramp.specs.declared.Breakpoint.{Breakpoint}
 use Rattle.ramp.specs.declared.Breakpoints.{Breakpoints}
-use Rattle.ramp.specs.Ramp.{none}
+use Rattle.ramp.specs.Ramp.{zeroPoint}
 
 abbrev pub listed : Breakpoints → List Breakpoint
 listed l = take (l .count) (l .points)
 
 abbrev pub emptyList : Breakpoints
-emptyList = record { count = 0; points = replicate 64 none }
+emptyList = record { count = 0; points = replicate 64 zeroPoint }
 
 abbrev pub appended : Breakpoints → Breakpoint → Breakpoints
 appended l p = record { count = l .count + 1; points = set (l .points) (l .count) p }
@@ -21,7 +21,7 @@ appended l p = record { count = l .count + 1; points = set (l .points) (l .count
 -- the first k of a list
 unfoldable pub copied : List Breakpoint → ℕ → Breakpoints
 copied ps zero = emptyList
-copied ps (suc k) = appended (copied ps k) (getD ps k none)
+copied ps (suc k) = appended (copied ps k) (getD ps k zeroPoint)
 
 -- how many are copied: none of a list that is too long, which is refused as the empty one is
 abbrev pub copyCount : ℕ → ℕ

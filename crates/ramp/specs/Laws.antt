@@ -1,5 +1,5 @@
--- Document 02, card 4: what every call leaves in the two lent buffers, told by what it answered. What a ramp's words are is said here by themselves, and not with
--- specs/Interpolation or `segmentOf`: a wrong definition there fails here.
+-- Document 02, card 4: what every call leaves in the two lent buffers, told by what it answered. What a ramp's words are is said here anew,
+-- without specs/Interpolation and `segmentOf`, so that a wrong definition there fails here.
 use mathlib.Core.Path.{_≡_}
 use Prim.Native.Nat.{ℕ, suc, _+_, _-_, _/_, _%_, _≤_, _<_}
 use mathlib.Core.Bool.{cond}
@@ -49,11 +49,12 @@ pub record Written (ps : List Breakpoint) (words : ℕ) (codes remainders codes�
   pub same-codes : length codes′ ≡ length codes
   pub same-remainders : length remainders′ ≡ length remainders
 
--- a call that wrote kept the rules, and its words are these; that the codes are in range is what their type, i16, holds (contract of `write_ramp`)
+-- a call that wrote kept the rules, and its words are these; its codes are in range by the contract of `write_ramp`
 abbrev pub RampWritten : Type 0
 RampWritten =
-    (ps : List Breakpoint) (n words : ℕ) (codes remainders : List ℕ) → CodesInRange ps → rampAnswer ps n (length codes) (length remainders) ≡ wrote words
-    → Rules ps n (length codes) (length remainders) × Written ps words codes remainders (rampCodes ps n codes remainders) (rampRemainders ps n codes remainders)
+    (ps : List Breakpoint) (n words : ℕ) (codes remainders : List ℕ) → rampAnswer ps n (length codes) (length remainders) ≡ wrote words
+    → Rules ps n (length codes) (length remainders)
+    × (CodesInRange ps → Written ps words codes remainders (rampCodes ps n codes remainders) (rampRemainders ps n codes remainders))
 
 -- and no others are so: what is said above fixes every word of both buffers
 abbrev pub WrittenOnly : Type 0

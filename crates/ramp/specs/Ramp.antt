@@ -13,15 +13,15 @@ use Rattle.ramp.specs.Interpolation.{codeBetween, remainderBetween, twos
 
 -- ---- The breakpoints: "one list of records, each an index and a signed code"
 
--- past the end of a list
-abbrev pub none : Breakpoint
-none = record { index = 0; code = pos 0 }
+-- what is read past the end of a list
+abbrev pub zeroPoint : Breakpoint
+zeroPoint = record { index = 0; code = pos 0 }
 
 abbrev pub indexAt : List Breakpoint → ℕ → ℕ
-indexAt ps k = getD ps k none .index
+indexAt ps k = getD ps k zeroPoint .index
 
 abbrev pub codeAt : List Breakpoint → ℕ → ℤ
-codeAt ps k = getD ps k none .code
+codeAt ps k = getD ps k zeroPoint .code
 
 abbrev pub lastIndex : List Breakpoint → ℕ
 lastIndex ps = indexAt ps (length ps - 1)
@@ -35,7 +35,7 @@ isIncreasing (a ∷ []) = true
 isIncreasing (a ∷ b ∷ ps) = ltb (a .index) (b .index) && isIncreasing (b ∷ ps)
 
 -- "There are 2 to 64 of them." "N, in document 01's range". "The first index is 0, indices rise strictly, and the last is below N." Neither "lent buffer
--- shorter than N". It is true just where `Rules` holds (specs/Laws).
+-- shorter than N". `RampWritten` and `RampRefused` (specs/Laws) say that it is true just where `Rules` holds.
 unfoldable pub isValid : List Breakpoint → (n codeWords remainderWords : ℕ) → Bool
 isValid ps n codeWords remainderWords =
     leb 2 (length ps)
@@ -64,7 +64,7 @@ segmentFrom a b [] i = segment a b
 segmentFrom a b (c ∷ ps) i = cond (leb i (b .index)) (segment a b) (segmentFrom b c ps i)
 
 unfoldable pub segmentOf : List Breakpoint → ℕ → Segment
-segmentOf [] i = segment none none
+segmentOf [] i = segment zeroPoint zeroPoint
 segmentOf (a ∷ []) i = segment a a
 segmentOf (a ∷ b ∷ ps) i = segmentFrom a b ps i
 

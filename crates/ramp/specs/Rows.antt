@@ -49,9 +49,9 @@ pub record RampRows : Type 0 where
   pub example-codes : rampCodes example 4 codes remainders ≡ 0 ∷ 0xffff ∷ 0xffff ∷ 0x8000ffff ∷ old ∷ old ∷ old ∷ []
   pub example-remainders : rampRemainders example 4 codes remainders ≡ 0 ∷ 2 ∷ 1 ∷ 0 ∷ older ∷ older ∷ older ∷ older ∷ []
   -- 11.5 is 11; 13 − 17 / 3 is 7 and 1 / 3, 13 − 34 / 3 is 1 and 2 / 3; D31 is in the last word alone
-  pub two-wrote-six : rampAnswer twoSegments 7 7 8 ≡ wrote 6
-  pub two-codes : rampCodes twoSegments 7 codes remainders ≡ 10 ∷ 11 ∷ 13 ∷ 7 ∷ 1 ∷ 0x8000fffc ∷ old ∷ []
-  pub two-remainders : rampRemainders twoSegments 7 codes remainders ≡ 0 ∷ 1 ∷ 0 ∷ 1 ∷ 2 ∷ 0 ∷ older ∷ older ∷ []
+  pub segments-wrote : rampAnswer twoSegments 7 7 8 ≡ wrote 6
+  pub segments-codes : rampCodes twoSegments 7 codes remainders ≡ 10 ∷ 11 ∷ 13 ∷ 7 ∷ 1 ∷ 0x8000fffc ∷ old ∷ []
+  pub segments-remainders : rampRemainders twoSegments 7 codes remainders ≡ 0 ∷ 1 ∷ 0 ∷ 1 ∷ 2 ∷ 0 ∷ older ∷ older ∷ []
   -- −0.5 is −1, on the way up and down
   pub rise-codes : rampCodes fullRise 3 codes remainders ≡ 0x8000 ∷ 0xffff ∷ 0x80007fff ∷ old ∷ old ∷ old ∷ old ∷ []
   pub rise-remainders : rampRemainders fullRise 3 codes remainders ≡ 0 ∷ 1 ∷ 0 ∷ older ∷ older ∷ older ∷ older ∷ older ∷ []
@@ -63,7 +63,7 @@ pub record RampRows : Type 0 where
   pub two-wrote : rampAnswer (counted 2) 70 70 70 ≡ wrote 2
   pub most-wrote : rampAnswer (counted 64) 70 70 70 ≡ wrote 64
   pub more-refused : rampAnswer (counted 65) 70 70 70 ≡ refused 11
-  -- "N, in document 01's range", from 1 to 1,048,576; no last index is below 0, nor a second one below 1
+  -- "N, in document 01's range", from 1 to 1,048,576; N = 0 has no index below it, and N = 1 only the first
   pub depth-zero : rampAnswer (counted 2) 0 5 5 ≡ refused 11
   pub depth-one : rampAnswer (counted 2) 1 5 5 ≡ refused 11
   pub depth-two : rampAnswer (counted 2) 2 5 5 ≡ wrote 2

@@ -1,4 +1,4 @@
--- Document 02, card 4: the rules for breakpoints and N, one by one. The call is refused exactly where one is broken (specs/Laws).
+-- Document 02, card 4: the rules for breakpoints, N and both lengths, one by one. The call is refused exactly where one is broken (specs/Laws).
 use mathlib.Core.Path.{_≡_}
 use Prim.Native.Nat.{ℕ, suc, _≤_, _<_}
 use mathlib.Core.List.{List}

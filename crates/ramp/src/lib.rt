@@ -8,7 +8,7 @@ ghost use lib.IntN.{ℤ, pos, _+ℤ_};
 ghost use lib.ListN.{length, getD, take};
 ghost use Rattle.ramp.specs.Answers.{wrote, countOf};
 ghost use Rattle.ramp.specs.Interpolation.{codeBetween, remainderBetween, twosComplement};
-ghost use Rattle.ramp.specs.Ramp.{none, lastIndex, isIncreasing, isValid, codeWord, remainderWord, overwritten, rampAnswer, rampCodes, rampRemainders};
+ghost use Rattle.ramp.specs.Ramp.{zeroPoint, lastIndex, isIncreasing, isValid, codeWord, remainderWord, overwritten, rampAnswer, rampCodes, rampRemainders};
 ghost use Rattle.ramp.specs.Rules.{CodesInRange, Rules};
 ghost use Rattle.ramp.specs.Copying.{emptyList, appended, copied, copyCount, listed, WellFormed, Brackets};
 
@@ -40,17 +40,17 @@ struct Sample {
 // The thin function: the breakpoint at an index of the list.
 fn breakpoint_at(points: &[Breakpoint], i: usize) -> Breakpoint
     requires { ⌜ i < length (now points) ⌝ }
-    ensures { λ r. ⌜ r ≡ getD (now (points .entry)) i none ⌝ }
+    ensures { λ r. ⌜ r ≡ getD (now (points .entry)) i zeroPoint ⌝ }
 {
     points[i]
 }
 
-// How many are copied of a list of n: none where there are too many, which is refused as an empty list is.
-fn copy_count(n: usize) -> usize
-    ensures { λ r. ⌜ r ≡ copyCount n ⌝ }
+// How many are copied of a list of this length: none of one that is too long, which is refused as an empty one is.
+fn copy_count(size: usize) -> usize
+    ensures { λ r. ⌜ r ≡ copyCount size ⌝ }
 {
-    if n <= 64 {
-        return n;
+    if size <= 64 {
+        return size;
     }
     0
 }
@@ -81,9 +81,9 @@ fn append(list: Breakpoints, point: Breakpoint) -> Breakpoints
 fn copy(points: &[Breakpoint]) -> Breakpoints
     ensures { λ r. ⌜ r ≡ copied (now (points .entry)) (copyCount (length (now (points .entry)))) ⌝ }
 {
-    let m = copy_count(points.len());
+    let total = copy_count(points.len());
     let mut list = empty();
-    while list.count < m {
+    while list.count < total {
         list = append(list, breakpoint_at(points, list.count));
     }
     list
@@ -146,12 +146,12 @@ fn is_increasing(list: Breakpoints) -> bool
     ensures { λ r. ⌜ r ≡ isIncreasing (listed list) ⌝ }
 {
     let points = list.points;
-    let n = list.count - 1;
+    let pairs = list.count - 1;
     let mut k = 0;
-    while k < n {
-        let a = points[k];
-        let b = points[k + 1];
-        if a.index < b.index {
+    while k < pairs {
+        let here = points[k];
+        let next = points[k + 1];
+        if here.index < next.index {
             k += 1;
         } else {
             return false;
@@ -161,9 +161,9 @@ fn is_increasing(list: Breakpoints) -> bool
 }
 
 // Whether the rules hold, for N and two buffers of so many words.
-fn is_valid(list: Breakpoints, n: u32, codes: usize, remainders: usize) -> bool
+fn is_valid(list: Breakpoints, n: u32, code_words: usize, remainder_words: usize) -> bool
     requires { ⌜ WellFormed list ⌝ }
-    ensures { λ r. ⌜ r ≡ isValid (listed list) n codes remainders ⌝ }
+    ensures { λ r. ⌜ r ≡ isValid (listed list) n «code_words» «remainder_words» ⌝ }
 {
     let points = list.points;
     let count = list.count;
@@ -181,20 +181,20 @@ fn is_valid(list: Breakpoints, n: u32, codes: usize, remainders: usize) -> bool
     if first.index != 0 {
         return false;
     }
-    let last = points[count - 1];
-    if n <= last.index {
+    let last_point = points[count - 1];
+    if n <= last_point.index {
         return false;
     }
-    if codes < depth {
+    if code_words < depth {
         return false;
     }
-    if remainders < depth {
+    if remainder_words < depth {
         return false;
     }
     is_increasing(list)
 }
 
-// The segment of i by its number from 0, where k is that of the index before it, which ends at `end`.
+// The number, from 0, of the segment that i stands in. k is that of the index before, or 0; `end` is where segment k ends.
 fn segment_number(k: usize, end: u32, i: u32) -> usize
     requires { ⌜ k < 64 ⌝ }
     ensures { λ r. ⌜ r ≡ cond (ltb end i) (k + 1) k ⌝ }
@@ -223,16 +223,16 @@ fn fill(list: Breakpoints, codes: &mut [u32], remainders: &mut [u32]) -> u32
 {
     let points = list.points;
     let count = list.count;
-    let end = points[count - 1];
-    let last = end.index;
+    let last_point = points[count - 1];
+    let last = last_point.index;
     let mut k: usize = 0;
     let mut i: u32 = 0;
     while i <= last {
         let next = points[k + 1];
         k = segment_number(k, next.index, i);
-        let a = points[k];
-        let b = points[k + 1];
-        let sample = interpolate(a.index, a.code, b.index, b.code, i);
+        let from = points[k];
+        let to = points[k + 1];
+        let sample = interpolate(from.index, from.code, to.index, to.code, i);
         codes[i as usize] = mark_last(sample.code, i, last);
         remainders[i as usize] = sample.remainder;
         i += 1;
@@ -256,8 +256,8 @@ fn write_list(list: Breakpoints, n: u32, codes: &mut [u32], remainders: &mut [u3
 
 // ---- For callers that hold no slice of structs
 
-// At most the 256 that the array has.
-fn at_most_all(count: usize) -> usize
+// The array has no more.
+fn at_most_256(count: usize) -> usize
     ensures { λ r. ⌜ r ≡ cond (ltb 256 count) 256 count ⌝ }
 {
     if 256 < count {
@@ -276,6 +276,6 @@ pub fn write_ramp_by_value(
 ) -> WordCount
     ensures { λ r. ⌜ (countOf r ≡ rampAnswer (take count points) n (length (now (codes .entry))) (length (now (remainders .entry)))) × (now (codes .exit) ≡ rampCodes (take count points) n (now (codes .entry)) (now (remainders .entry))) × (now (remainders .exit) ≡ rampRemainders (take count points) n (now (codes .entry)) (now (remainders .entry))) × ((words : ℕ) → countOf r ≡ wrote words → CodesInRange (take count points)) ⌝ }
 {
-    let m = at_most_all(count);
-    write_ramp(&points[..m], n, codes, remainders)
+    let total = at_most_256(count);
+    write_ramp(&points[..total], n, codes, remainders)
 }

@@ -54,6 +54,7 @@ impl Asked<'_> {
         (lent.len() as u64) < self.n as u64
     }
 
+    /// Told apart from the call's own test, so that a wrong one does not choose what counts as reached.
     fn broken(&self) -> Vec<Rule> {
         let pairs = || self.points.iter().zip(self.points.iter().skip(1));
         let rules = [
@@ -68,8 +69,8 @@ impl Asked<'_> {
         rules.iter().filter(|r| r.0).map(|r| r.1).collect()
     }
 
-    /// Causes of number and of N, each alone as far as can be: the last index is below no N of 0, nor of 1 with two
-    /// breakpoints, and no script lends as many words as an N out of range.
+    /// Causes in how many breakpoints there are, and in N, each alone as far as can be: with N 0 or 1 the last index is
+    /// not below N either, and no script lends as many words as an N out of range.
     fn refused(&self, broken: &[Rule]) -> Rows {
         let (count, n) = (self.points.len(), self.n);
         let is_count = broken == [Rule::Count];

@@ -1,5 +1,5 @@
 -- `ramp::breakpoint_at` meets its contract: a walk of its MIR, by hand. The place of `points[i]` is i * 8 past the slice's pointer. The slice is looked into, element i is taken out of the row,
--- its struct is read whole and append back, and the token comes back. Of what the element owns, which can be copied, one copy goes back into the row and the other is the result's.
+-- its struct is read whole and put back, and the token comes back. Of what the element owns, which can be copied, one copy goes back into the row and the other is the result's.
 -- Assumes nothing.
 use mathlib.Core.Path.{refl, sym}
 use Prim.Native.Nat.{ℕ, _<_, _^_, _*_}
@@ -37,7 +37,7 @@ use denote.Triple.Spec.{Meets, tripleOf}
 use denote.Triple.Table.{entered}
 use denote.Triple.Walked.{says, needs, Stays, stay-none-slice, stay-none, walkOf, Walks, ends-at, walked, goes-none-slice, goes-none, walk-meets}
 use denote.Exit.{yes}
-use Rattle.ramp.specs.Ramp.{none}
+use Rattle.ramp.specs.Ramp.{zeroPoint}
 use Rattle.ramp.specs.declared.Breakpoint.{Breakpoint}
 use Rattle.ramp.proofs.Breakpoint as B
 use Rattle.ramp.proofs.Breakpoint.Laws as B′
@@ -57,7 +57,7 @@ module _ {M : Type 1} (𝓤 : URA M) (H : Heap 𝓤) (A : Atoms 𝓤) (W : Given
   x = (record { ptr = (b, o); name = γ; now = ys }, (i, tt))
 
   abbrev elem : Breakpoint
-  elem = getD ys i none
+  elem = getD ys i zeroPoint
 
   abbrev mach : Val
   mach = LL.tuple-val B.the-type B′.the-laws (B.the-type .to elem)
@@ -88,12 +88,12 @@ module _ {M : Type 1} (𝓤 : URA M) (H : Heap 𝓤) (A : Atoms 𝓤) (W : Given
         rewrite ! 2 (λ (p : ℕ). ‵ (fat fullShare tyPtr l₄ 0 (vptr b p))) (sym (place-is 8 o i)) refl $
         move ! (13 ∷ []) $ fsplit ! $ fsplit ! $ move ! (1 ∷ []) $ fsplit ! $ move ! (16 ∷ []) $ split ! $ move ! (3 ∷ 0 ∷ []) $
         looks-slice ! tt B.the-row (Is B.the-row) (shows 𝓤 H A B.the-row) (LL.vals B.the-type B′.the-laws) (LL.tells B.the-type B′.the-laws) (LL.copy B.the-type B′.the-copy 𝓤 H A W) ys b o (λ q′.
-        elem-out ! B.the-row (Is B.the-row) (shows 𝓤 H A B.the-row) (LL.vals B.the-type B′.the-laws) (LL.tells B.the-type B′.the-laws) q′ ys i none b o l (λ g.
+        elem-out ! B.the-row (Is B.the-row) (shows 𝓤 H A B.the-row) (LL.vals B.the-type B′.the-laws) (LL.tells B.the-type B′.the-laws) q′ ys i zeroPoint b o l (λ g.
         -- [points[i]; what it owns; the others; what shuts; the fractured borrow; true; res; points' fact; i's; _5; …; _4; …; _3; …; _2; …; _1; …; room for _0; …]
         assigns ! (of-opd ! (load ! (from ! (hop ! (look ! 11 refl) (stop !))) (look-raw ! 0 refl))) (from ! (stop !)) (init ! 9 refl (LL.lawful B.the-type B′.the-laws 𝓤 H A W .typed elem _ g .0)) $
         assigns ! (of-opd ! (load ! (from ! (stop !)) (look ! 9 refl))) (from ! (stop !)) (init ! 19 refl (LL.lawful B.the-type B′.the-laws 𝓤 H A W .typed elem _ g .0)) $
         move ! (1 ∷ []) $ use1 W (‵ (B.the-row .own elem (mach ∷ [])) ⊛ ‵ (B.the-row .own elem (mach ∷ []))) (LL.copy B.the-type B′.the-copy 𝓤 H A W .twice elem (mach ∷ [])) $ split ! $ move ! (2 ∷ 0 ∷ 3 ∷ 1 ∷ []) $
-        elem-back ! B.the-row q′ ys i none (mach ∷ []) b o l $ move ! (0 ∷ 2 ∷ []) $ shuts-slice ! tt B.the-row q′ ys b o $
+        elem-back ! B.the-row q′ ys i zeroPoint (mach ∷ []) b o l $ move ! (0 ∷ 2 ∷ []) $ shuts-slice ! tt B.the-row q′ ys b o $
         -- [the token; what the result owns; the fractured borrow; true; res; points' fact; i's; _5; …]
         returns ! (look ! 17 refl) $ forget ! 7 refl $ forget ! 9 refl $ forget ! 11 refl $ forget ! 13 refl $ forget ! 15 refl $ forget ! 17 refl $
         move ! (17 ∷ 18 ∷ []) $ free1 ! $ move ! (15 ∷ 16 ∷ []) $ free1 ! $ move ! (13 ∷ 14 ∷ []) $ free1 ! $ move ! (11 ∷ 12 ∷ []) $ free1 ! $ move ! (9 ∷ 10 ∷ []) $ free1 ! $ move ! (7 ∷ 8 ∷ []) $ free1 ! $ free0 ! $

@@ -44,7 +44,7 @@ use denote.Triple.Statement.{Contract, Triple}
 use denote.Triple.Table.{entered, cited}
 use denote.Triple.Walked.{says, Stays, stay-none-slice, walkOf, Walks, ends-at, walked, goes-none-slice, walk-meets}
 use denote.Exit.{yes}
-use Rattle.ramp.specs.Ramp.{none}
+use Rattle.ramp.specs.Ramp.{zeroPoint}
 use Rattle.ramp.specs.Copying.{emptyList, appended, copied, copyCount}
 use Rattle.ramp.specs.declared.Breakpoint.{Breakpoint}
 use Rattle.ramp.specs.declared.Breakpoints.{Breakpoints}
@@ -92,7 +92,7 @@ more = seq (call #ramp·breakpoint-at (copy (place 1 []) ∷ copy (place 3 (fiel
 abbrev stayed : Stays (fn.ended .signature .params) (fn.ended .kept)
 stayed = (stay-none-slice (0 ∷ []) tt (plain (λ _. B.the-row)) yes, tt)
 
--- a table's machine value
+-- a list's machine value
 abbrev low : Breakpoints → Val
 low t = LL.tuple-val R.the-type R′.the-laws (R.the-type .to t)
 
@@ -123,8 +123,8 @@ module _ {M : Type 1} (𝓤 : URA M) (H : Heap 𝓤) (A : Atoms 𝓤) (mem : Mem
   empty-of : (r : Breakpoints) → ent 𝓤 (ensured 𝓤 H A empty.ended (empty.clauses 𝓤 H A mem run) tt tt tt r) (fact 𝓤 (r ≡ emptyList))
   empty-of r = exE 𝓤 _ (λ ws. snd∗ 𝓤 (sem 𝓤 H A (lasts empty.ended tt tt ws)) (fact 𝓤 (r ≡ emptyList)))
 
-  at-of : (κ : Lft) (x : RefT (List Breakpoint)) (i : ℕ) (r : Breakpoint) → ent 𝓤 (ensured 𝓤 H A at.ended (at.clauses 𝓤 H A mem run) (κ, tt) (x, (i, tt)) tt r) (fact 𝓤 (r ≡ getD (now x) i none))
-  at-of κ x i r = exE 𝓤 _ (λ ws. snd∗ 𝓤 (sem 𝓤 H A (lasts at.ended (κ, tt) (x, (i, tt)) ws)) (fact 𝓤 (r ≡ getD (now x) i none)))
+  at-of : (κ : Lft) (x : RefT (List Breakpoint)) (i : ℕ) (r : Breakpoint) → ent 𝓤 (ensured 𝓤 H A at.ended (at.clauses 𝓤 H A mem run) (κ, tt) (x, (i, tt)) tt r) (fact 𝓤 (r ≡ getD (now x) i zeroPoint))
+  at-of κ x i r = exE 𝓤 _ (λ ws. snd∗ 𝓤 (sem 𝓤 H A (lasts at.ended (κ, tt) (x, (i, tt)) ws)) (fact 𝓤 (r ≡ getD (now x) i zeroPoint)))
 
   append-of : (t : Breakpoints) (b : Breakpoint) (r : Breakpoints) → ent 𝓤 (ensured 𝓤 H A append.ended (append.clauses 𝓤 H A mem run) tt (t, (b, tt)) tt r) (fact 𝓤 (r ≡ appended t b))
   append-of t b r = exE 𝓤 _ (λ ws. snd∗ 𝓤 (sem 𝓤 H A (lasts append.ended tt (t, (b, tt)) ws)) (fact 𝓤 (r ≡ appended t b)))
@@ -186,7 +186,7 @@ module _ {M : Type 1} (𝓤 : URA M) (H : Heap 𝓤) (A : Atoms 𝓤) (W : Given
 
   -- the loop: at counting m elements are read
   module _ (m : ℕ) (em : m ≡ copyCount n) (gn : n < 2 ^ 64) where
-    -- a table with its machine value: what the first `count` elements make
+    -- a list with its machine value: what the first `count` elements make
     abbrev Upto : Type 0
     Upto = (t : Breakpoints) × Is R.the-row t (low t ∷ []) × (t ≡ copied ys (t .count)) × (t .count ≤ m)
 
@@ -234,7 +234,7 @@ module _ {M : Type 1} (𝓤 : URA M) (H : Heap 𝓤) (A : Atoms 𝓤) (W : Given
           -- [what the call asks; what the slice owns; _6; …; _5; …; _4; …; _3; …; _2; …; _1; …; _0; …]
           calls-at ! fm (BreakpointAt 𝓤 H A mem run) known-at (to-at (i .0 .count)) (and-then ! (load ! (from ! (stop !)) (look ! 12 refl)) (and-then ! (load ! (from ! (fld ! refl (stop !))) (look-in ! 8 (sub ! 0 refl (whole !)))) (no-more !))) (λ w.
           use1 W (later (some (λ (p : Breakpoint). ((‵ (flft κ q) ⊛ ‵ ftrue) ⊛ ‵ (B.the-row .own p (w ∷ []))) ⊛ raw (ensured 𝓤 H A at.ended (at.clauses 𝓤 H A mem run) (κ, tt) (x, (i .0 .count, tt)) tt p)))) (id⊢ 𝓤 _) $ await ! tt $ pick ! (λ p.
-          split ! $ move ! (1 ∷ []) $ use1 W (raw (fact 𝓤 (p ≡ getD ys (i .0 .count) none))) (at-of 𝓤 H A mem run κ x (i .0 .count) p) $ heard ! (p ≡ getD ys (i .0 .count) none) (λ ep. split ! $ move ! (1 ∷ []) $
+          split ! $ move ! (1 ∷ []) $ use1 W (raw (fact 𝓤 (p ≡ getD ys (i .0 .count) zeroPoint))) (at-of 𝓤 H A mem run κ x (i .0 .count) p) $ heard ! (p ≡ getD ys (i .0 .count) zeroPoint) (λ ep. split ! $ move ! (1 ∷ []) $
           -- [what the breakpoint owns; the token; what the slice owns; _6; …; _5; …; _4; …; _3; …; _2; …; _1; …; _0; …]
           peeks ! B.the-row (Is B.the-row) (shows 𝓤 H A B.the-row) p (w ∷ []) (λ ip.
           land ! (from ! (stop !)) (init ! 3 refl (LL.lawful B.the-type B′.the-laws 𝓤 H A W .typed p _ ip .0)) $
@@ -242,7 +242,7 @@ module _ {M : Type 1} (𝓤 : URA M) (H : Heap 𝓤) (A : Atoms 𝓤) (W : Given
           calls-at-last ! fm (Append 𝓤 H A mem run) known-append (to-append (i .0) p w) (and-then ! (load ! (from ! (stop !)) (look ! 9 refl)) (and-then ! (load ! (from ! (stop !)) (look ! 3 refl)) (no-more !))) (λ u.
           use1 W (later (some (λ (r : Breakpoints). (‵ ftrue ⊛ ‵ (R.the-row .own r (u ∷ []))) ⊛ raw (ensured 𝓤 H A append.ended (append.clauses 𝓤 H A mem run) tt (i .0, (p, tt)) tt r)))) (id⊢ 𝓤 _) $ await ! tt $ pick ! (λ r.
           split ! $ move ! (1 ∷ []) $ use1 W (raw (fact 𝓤 (r ≡ appended (i .0) p))) (append-of 𝓤 H A mem run (i .0) p r) $ heard ! (r ≡ appended (i .0) p) (λ er. split ! $ drop ! $
-          -- [what the table owns; the token; what the slice owns; _6; …; _5; …; _4; …; _3; …; _2; …; _1; …; _0; …]
+          -- [what the copy owns; the token; what the slice owns; _6; …; _5; …; _4; …; _3; …; _2; …; _1; …; _0; …]
           peeks ! R.the-row (Is R.the-row) (shows 𝓤 H A R.the-row) r (u ∷ []) (λ ir.
           land-last ! (from ! (stop !)) (store ! 9 refl (LL.lawful R.the-type R′.the-laws 𝓤 H A W .typed r _ ir .0)) $
           rewrite ! 9 (λ (v : Val). ‵ (fat fullShare R′.mir l₃ 0 v)) (low-is r u ir) refl $ forget ! 3 refl $ forget ! 5 refl $
@@ -266,13 +266,13 @@ module _ {M : Type 1} (𝓤 : URA M) (H : Heap 𝓤) (A : Atoms 𝓤) (W : Given
           fits : T (ltb (i .0 .count) m) → i .0 .count < 2 ^ 64
           fits less = let l = in-list less in omega arith
 
-          next : T (ltb (i .0 .count) m) → (p : Breakpoint) → p ≡ getD ys (i .0 .count) none → (r : Breakpoints) → r ≡ appended (i .0) p → (u : Val) → Is R.the-row r (u ∷ []) → Upto
+          next : T (ltb (i .0 .count) m) → (p : Breakpoint) → p ≡ getD ys (i .0 .count) zeroPoint → (r : Breakpoints) → r ≡ appended (i .0) p → (u : Val) → Is R.the-row r (u ∷ []) → Upto
           next less p ep r er u ir =
               let l = ltb→lt (i .0 .count) m less in
               let e : r .count ≡ i .0 .count + 1 = ap (λ (t : Breakpoints). t .count) er in
               (r, subst (λ (v : Val). Is R.the-row r (v ∷ [])) (low-is r u ir) ir, copied-next ys (i .0) r p (i .2) ep er, omega arith)
 
-          nearer : (less : T (ltb (i .0 .count) m)) (p : Breakpoint) (ep : p ≡ getD ys (i .0 .count) none) (r : Breakpoints) (er : r ≡ appended (i .0) p) (u : Val) (ir : Is R.the-row r (u ∷ [])) → Nearer (next less p ep r er u ir) i
+          nearer : (less : T (ltb (i .0 .count) m)) (p : Breakpoint) (ep : p ≡ getD ys (i .0 .count) zeroPoint) (r : Breakpoints) (er : r ≡ appended (i .0) p) (u : Val) (ir : Is R.the-row r (u ∷ [])) → Nearer (next less p ep r er u ir) i
           nearer less p ep r er u ir = let l = ltb→lt (i .0 .count) m less in let e : r .count ≡ i .0 .count + 1 = ap (λ (t : Breakpoints). t .count) er in omega arith
 
       looped : (i : Upto) → Sq W (At i) (runs C Λ En body.t-4 (atRet En Post))

@@ -13,7 +13,7 @@ use borrow.Author.Needs.{needs}
 use Rattle.ramp.specs.declared.Breakpoint.{Breakpoint}
 use Rattle.ramp.specs.declared.Breakpoints.{Breakpoints}
 use Rattle.ramp.specs.Interpolation.{codeBetween, remainderBetween, twosComplement}
-use Rattle.ramp.specs.Ramp.{none, codeWord, remainderWord}
+use Rattle.ramp.specs.Ramp.{zeroPoint, codeWord, remainderWord}
 use Rattle.ramp.specs.Rules.{Rules}
 use Rattle.ramp.specs.Copying.{listed, WellFormed}
 use Rattle.ramp.proofs.Words.{overwritten-length}
@@ -48,14 +48,14 @@ module _ (s : tie.Start Inv-loop μ-loop) where
   abbrev rules : Rules (listed list) depth (length cs) (length ds)
   rules = s .pre .1 .1
 
-sub-end : tie.Need-sub-end Inv-loop μ-loop
-sub-end c = let s = c .before .before .before in let h = filling.many (list s) (cs s) (ds s) (whole s) (depth s) (rules s) in omega arith
+sub-last-point : tie.Need-sub-last-point Inv-loop μ-loop
+sub-last-point c = let s = c .before .before .before in let h = filling.many (list s) (cs s) (ds s) (whole s) (depth s) (rules s) in omega arith
 
-mul-end : tie.Need-mul-end Inv-loop μ-loop
-mul-end c = search needs
+mul-last-point : tie.Need-mul-last-point Inv-loop μ-loop
+mul-last-point c = search needs
 
-array-copy-out-end : tie.Need-array-copy-out-end Inv-loop μ-loop
-array-copy-out-end c = search needs
+array-copy-out-last-point : tie.Need-array-copy-out-last-point Inv-loop μ-loop
+array-copy-out-last-point c = search needs
 
 loop-holds : tie.Need-loop-holds Inv-loop μ-loop
 loop-holds c = let s = c .before .before .before .before in filling.begin (list s) (cs s) (ds s) (whole s) (depth s) (rules s)
@@ -93,20 +93,20 @@ module _ (c : tie.After-segment-number Inv-loop μ-loop) where
       let h = filling.r-small (list s) (cs s) (ds s) (whole s) (depth s) (rules s) (a .loop .codes) (a .loop .remainders) (a .loop .k) (a .loop .i) (a .loop .inv) (c .before .before .loop-test .taken) (c .segment-number .result) (c .segment-number .ensures) in
       omega arith
 
-mul-a : tie.Need-mul-a Inv-loop μ-loop
-mul-a c = record { fits = let h = found c in omega arith }
+mul-from : tie.Need-mul-from Inv-loop μ-loop
+mul-from c = record { fits = let h = found c in omega arith }
 
-array-copy-out-a : tie.Need-array-copy-out-a Inv-loop μ-loop
-array-copy-out-a c = let h = found c in omega arith
+array-copy-out-from : tie.Need-array-copy-out-from Inv-loop μ-loop
+array-copy-out-from c = let h = found c in omega arith
 
-add-b : tie.Need-add-b Inv-loop μ-loop
-add-b c = record { fits = let h = found (c .before) in omega arith }
+add-to : tie.Need-add-to Inv-loop μ-loop
+add-to c = record { fits = let h = found (c .before) in omega arith }
 
-mul-b : tie.Need-mul-b Inv-loop μ-loop
-mul-b c = record { fits = let h = found (c .before) in omega arith }
+mul-to : tie.Need-mul-to Inv-loop μ-loop
+mul-to c = record { fits = let h = found (c .before) in omega arith }
 
-array-copy-out-b : tie.Need-array-copy-out-b Inv-loop μ-loop
-array-copy-out-b c = let h = found (c .before) in omega arith
+array-copy-out-to : tie.Need-array-copy-out-to Inv-loop μ-loop
+array-copy-out-to c = let h = found (c .before) in omega arith
 
 interpolate-requires : tie.Need-interpolate-requires Inv-loop μ-loop
 interpolate-requires c κs =
@@ -121,10 +121,10 @@ module _ (c : tie.After-interpolate Inv-loop μ-loop) where
   place = c .before .before .before .before .before
 
   abbrev from : Breakpoint
-  from = getD (list (start (head place)) .points) (place .segment-number .result) none
+  from = getD (list (start (head place)) .points) (place .segment-number .result) zeroPoint
 
   abbrev to : Breakpoint
-  to = getD (list (start (head place)) .points) (place .segment-number .result + 1) none
+  to = getD (list (start (head place)) .points) (place .segment-number .result + 1) zeroPoint
 
   abbrev i : ℕ
   i = head place .loop .i
@@ -217,19 +217,19 @@ fill-spec =
     (tie.spec
     Inv-loop
     μ-loop
-    sub-end
-    mul-end
-    array-copy-out-end
+    sub-last-point
+    mul-last-point
+    array-copy-out-last-point
     loop-holds
     add-next
     mul-next
     array-copy-out-next
     segment-number-requires
-    mul-a
-    array-copy-out-a
-    add-b
-    mul-b
-    array-copy-out-b
+    mul-from
+    array-copy-out-from
+    add-to
+    mul-to
+    array-copy-out-to
     interpolate-requires
     mark-last-requires
     cast-codes

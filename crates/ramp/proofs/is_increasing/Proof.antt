@@ -19,10 +19,10 @@ abbrev Steps : List Breakpoint → ℕ → Type 0
 Steps points k = (j : ℕ) → j < k → indexAt points j < indexAt points (suc j)
 
 abbrev Inv-loop : tie.InvT-loop
-Inv-loop points n k₀ k = (k ≤ n) × Steps points k
+Inv-loop points pairs k₀ k = (k ≤ pairs) × Steps points k
 
 abbrev μ-loop : tie.MeasureT-loop
-μ-loop points n k₀ k = n - k
+μ-loop points pairs k₀ k = pairs - k
 
 -- the parameters, from the loop's head
 module _ (o : tie.At-loop Inv-loop μ-loop) where
@@ -38,26 +38,26 @@ module _ (o : tie.At-loop Inv-loop μ-loop) where
   size : length (take count points) ≡ count
   size = size-take points count (start .pre .1 .whole) (start .pre .1 .few)
 
-sub-n : tie.Need-sub-n Inv-loop μ-loop
-sub-n c = search needs
+sub-pairs : tie.Need-sub-pairs Inv-loop μ-loop
+sub-pairs c = search needs
 
 loop-holds : tie.Need-loop-holds Inv-loop μ-loop
 loop-holds c = (search needs, (λ j l. absurd (omega arith)))
 
-mul-a : tie.Need-mul-a Inv-loop μ-loop
-mul-a c = search needs
+mul-here : tie.Need-mul-here Inv-loop μ-loop
+mul-here c = search needs
 
-array-copy-out-a : tie.Need-array-copy-out-a Inv-loop μ-loop
-array-copy-out-a c = search needs
+array-copy-out-here : tie.Need-array-copy-out-here Inv-loop μ-loop
+array-copy-out-here c = search needs
 
-add-b : tie.Need-add-b Inv-loop μ-loop
-add-b c = search needs
+add-next : tie.Need-add-next Inv-loop μ-loop
+add-next c = search needs
 
-mul-b : tie.Need-mul-b Inv-loop μ-loop
-mul-b c = search needs
+mul-next : tie.Need-mul-next Inv-loop μ-loop
+mul-next c = search needs
 
-array-copy-out-b : tie.Need-array-copy-out-b Inv-loop μ-loop
-array-copy-out-b c = search needs
+array-copy-out-next : tie.Need-array-copy-out-next Inv-loop μ-loop
+array-copy-out-next c = search needs
 
 add-k : tie.Need-add-k Inv-loop μ-loop
 add-k c = search needs
@@ -103,13 +103,13 @@ is-increasing-spec =
     (tie.spec
     Inv-loop
     μ-loop
-    sub-n
+    sub-pairs
     loop-holds
-    mul-a
-    array-copy-out-a
-    add-b
-    mul-b
-    array-copy-out-b
+    mul-here
+    array-copy-out-here
+    add-next
+    mul-next
+    array-copy-out-next
     add-k
     loop-less
     loop-again

@@ -51,14 +51,14 @@ returns-4 c =
     let s = o .before .before .before .before in
     sym (broken (ps s) _ _ _ (λ r. c .if4 .taken (sym (first s (o .before .before .if1 .left)) ∙ r .first)))
 
-sub-last : tie.Need-sub-last
-sub-last c = search needs
+sub-last-point : tie.Need-sub-last-point
+sub-last-point c = search needs
 
-mul-last : tie.Need-mul-last
-mul-last c = search needs
+mul-last-point : tie.Need-mul-last-point
+mul-last-point c = search needs
 
-array-copy-out-last : tie.Need-array-copy-out-last
-array-copy-out-last c = search needs
+array-copy-out-last-point : tie.Need-array-copy-out-last-point
+array-copy-out-last-point c = search needs
 
 returns-5 : tie.Need-returns-5
 returns-5 c =
@@ -97,9 +97,9 @@ is-valid-spec =
     returns-3
     array-copy-out-first
     returns-4
-    sub-last
-    mul-last
-    array-copy-out-last
+    sub-last-point
+    mul-last-point
+    array-copy-out-last-point
     returns-5
     returns-6
     returns-7

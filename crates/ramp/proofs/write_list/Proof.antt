@@ -1,7 +1,6 @@
 -- `ramp::write_list` meets its contract. Assumes nothing.
 use mathlib.Core.Path.{sym, ap, _∙_}
 use Prim.Native.Nat.{ℕ}
-use lib.ListN.{length}
 use borrow.Author.Needs.{needs}
 use Rattle.ramp.specs.Answers.{wrote}
 use Rattle.ramp.specs.Ramp.{codeWord, remainderWord, overwritten, rampAnswer, rampCodes, rampRemainders}

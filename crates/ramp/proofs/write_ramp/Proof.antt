@@ -171,7 +171,7 @@ module _ {M : Type 1} (𝓤 : URA M) (H : Heap 𝓤) (A : Atoms 𝓤) (W : Given
         calls-at ! fm (Copying 𝓤 H A mem run) known-copying to-copying (and-then ! (load ! (from ! (stop !)) (look ! 22 refl)) (no-more !)) (λ v.
         use1 W (later (some (λ (t : Breakpoints). ((‵ (flft κ₀ q₀) ⊛ ‵ ftrue) ⊛ ‵ (R.the-row .own t (v ∷ []))) ⊛ raw (ensured 𝓤 H A copying.ended (copying.clauses 𝓤 H A mem run) (κ₀, tt) (x, tt) tt t)))) (id⊢ 𝓤 _) $ await ! tt $ pick ! (λ t.
         split ! $ move ! (1 ∷ []) $ use1 W (raw (fact 𝓤 (t ≡ copied ys (copyCount (length ys))))) (copying-of 𝓤 H A mem run κ₀ x t) $ heard ! (t ≡ copied ys (copyCount (length ys))) (λ et. split ! $ move ! (1 ∷ []) $
-        -- [what the table owns; the list's token; what the list owns; the others; what the remainders own; true; what the codes own; _9; …]
+        -- [what the copy owns; the list's token; what the list owns; the others; what the remainders own; true; what the codes own; _9; …]
         peeks ! R.the-row (Is R.the-row) (shows 𝓤 H A R.the-row) t (v ∷ []) (λ it.
         land ! (from ! (stop !)) (init ! 15 refl (LL.lawful R.the-type R′.the-laws 𝓤 H A W .typed t _ it .0)) $
         -- both buffers are lent again as they stand

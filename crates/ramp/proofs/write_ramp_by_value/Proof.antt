@@ -1,4 +1,4 @@
--- `ramp::write_ramp_by_value` meets its contract: a walk of its MIR, by hand. The first elements of the array, as many as `at_most_all` says, are lent as a
+-- `ramp::write_ramp_by_value` meets its contract: a walk of its MIR, by hand. The first elements of the array, as many as `at_most_256` says, are lent as a
 -- `&[Breakpoint]` for a lifetime that the walk makes (`lft-new`, `lends-shr-slice`); once `write_ramp` has returned the lifetime is ended and the array is whole again
 -- (`lft-end`, `lent-back`), so that its local can be freed. Both buffers are given up to `write_ramp` for good.
 -- Assumes nothing.
@@ -58,10 +58,10 @@ use Rattle.ramp.proofs.Breakpoint as B
 use Rattle.ramp.proofs.Breakpoint.Laws as B′
 use Rattle.ramp.proofs.WordCount as E
 use Rattle.ramp.proofs.WordCount.Laws as E′
-use Rattle.ramp.proofs.at_most_all as bounding
-use Rattle.ramp.proofs.at_most_all.Symbol as bounding-def
-use Rattle.ramp.proofs.at_most_all.Symbol.{name as #ramp·at-most-all}
-use Rattle.ramp.proofs.at_most_all.Met as bounding-thm
+use Rattle.ramp.proofs.at_most_256 as bounding
+use Rattle.ramp.proofs.at_most_256.Symbol as bounding-def
+use Rattle.ramp.proofs.at_most_256.Symbol.{name as #ramp·at-most-256}
+use Rattle.ramp.proofs.at_most_256.Met as bounding-thm
 use Rattle.ramp.proofs.write_ramp as writing
 use Rattle.ramp.proofs.write_ramp.Symbol as writing-def
 use Rattle.ramp.proofs.write_ramp.Symbol.{name as #ramp·write-ramp}
@@ -119,7 +119,7 @@ module _ {M : Type 1} (𝓤 : URA M) (H : Heap 𝓤) (A : Atoms 𝓤) (mem : Mem
   abbrev Writing : Contract 𝓤
   Writing = tripleOf 𝓤 H A writing.signature (writing.spec 𝓤 H A mem run)
 
-  -- of `at_most_all`'s `ensured`, the clause alone
+  -- of `at_most_256`'s `ensured`, the clause alone
   bounding-of : (n r : ℕ) → ent 𝓤 (ensured 𝓤 H A bounding.ended (bounding.clauses 𝓤 H A mem run) tt (n, tt) tt r) (fact 𝓤 (r ≡ bound n))
   bounding-of n r = exE 𝓤 _ (λ ws. snd∗ 𝓤 (sem 𝓤 H A (lasts bounding.ended tt (n, tt) ws)) (fact 𝓤 (r ≡ bound n)))
 
@@ -172,7 +172,7 @@ module _ {M : Type 1} (𝓤 : URA M) (H : Heap 𝓤) (A : Atoms 𝓤) (W : Given
       owned ! usize (Is usize) (uint-makes 𝓤 H A W w64) count _ (refl, count-fits) $ fjoin ! $
       owned ! Points (Is Points) (array-makes 𝓤 H A W B.the-row (LL.makes B.the-type B′.the-plain 𝓤 H A) 256) ps _ ia $ fjoin ! $ frame ! $ done !
 
-  -- what `at_most_all` is passed, and what gives it
+  -- what `at_most_256` is passed, and what gives it
   abbrev to-bounding : Bounding 𝓤 H A mem run .Ghost
   to-bounding = ((tt, tt, tt, (count, tt), (vint w64 count ∷ [], tt)), tt)
 
@@ -220,7 +220,7 @@ module _ {M : Type 1} (𝓤 : URA M) (H : Heap 𝓤) (A : Atoms 𝓤) (W : Given
   room : Room B.the-row (length qs)
   room = let h = few in (fits, (let g : length qs * 8 ≤ 2048 = omega arith in lt-of-le-of-lt g (lit< tt)))
 
-  module _ (C : Calls 𝓤 H) (Λ : Loops 𝓤 H) (fm : FmC 𝓤 H (W .laws) C) (known-bounding : Triple 𝓤 (C #ramp·at-most-all) (Bounding 𝓤 H A mem run)) (known-writing : Triple 𝓤 (C #ramp·write-ramp) (Writing 𝓤 H A mem run)) where
+  module _ (C : Calls 𝓤 H) (Λ : Loops 𝓤 H) (fm : FmC 𝓤 H (W .laws) C) (known-bounding : Triple 𝓤 (C #ramp·at-most-256) (Bounding 𝓤 H A mem run)) (known-writing : Triple 𝓤 (C #ramp·write-ramp) (Writing 𝓤 H A mem run)) where
     walk : Room u32 (length cs) → Room u32 (length ds) → ent 𝓤 (onEntry 𝓤 H A fn.signature (κ₁, (κ₂, tt)) (q₁, (q₂, tt)) arg vals)
         (WpFn 𝓤 H C Λ code.function (arr ∷ vint w64 count ∷ vint w32 n ∷ s₁ ∷ s₂ ∷ []) Post)
     walk room₁ room₂ =
@@ -276,7 +276,7 @@ module _ {M : Type 1} (𝓤 : URA M) (H : Heap 𝓤) (A : Atoms 𝓤) (W : Given
         keep ! (1 ∷ 5 ∷ 3 ∷ 2 ∷ []) $ by ! (exits r w (zs .1 .1 .0) (zs .1 .1 .1 .0) e m₁ m₂)))))))))))))))))))))))))))))
 
 module _ {M : Type 1} (𝓤 : URA M) (H : Heap 𝓤) (A : Atoms 𝓤) (W : Given 𝓤 H A) (mem : Memory → SProp 𝓤) (run : Routine → Fun 𝓤) (𝓣 : Tables 𝓤 H)
-    (known-bounding : Triple 𝓤 (𝓣 .C #ramp·at-most-all) (Bounding 𝓤 H A mem run)) (known-writing : Triple 𝓤 (𝓣 .C #ramp·write-ramp) (Writing 𝓤 H A mem run)) where
+    (known-bounding : Triple 𝓤 (𝓣 .C #ramp·at-most-256) (Bounding 𝓤 H A mem run)) (known-writing : Triple 𝓤 (𝓣 .C #ramp·write-ramp) (Writing 𝓤 H A mem run)) where
   walks : Walks 𝓤 H A fn.ended stayed (WpFn 𝓤 H (𝓣 .C) (𝓣 .Λ) code.function) (fn.clauses 𝓤 H A mem run)
   walks = walked 𝓤 H A fn.ended stayed (fn.clauses 𝓤 H A mem run) (WpFn 𝓤 H (𝓣 .C) (𝓣 .Λ) code.function)
       (λ κs. (array-vals low, (uint-vals w64, (uint-vals w32, (slice-vals, (slice-vals, tt))))))
@@ -299,5 +299,5 @@ write-ramp-by-value-spec 𝓤 H 𝓜 𝓖 𝓡 =
     entered 𝓤 H (tripleOf 𝓤 H (𝓖 .A) fn.signature (fn.spec 𝓤 H (𝓖 .A) (𝓜 .mem) (𝓡 .run)))
     (tables 𝓤 H 𝓜 𝓡 code.env .C) (tables 𝓤 H 𝓜 𝓡 code.env .Λ) #ramp·write-ramp-by-value code.function (code.unfolded 𝓤 H 𝓜 𝓡)
     (meets 𝓤 H (𝓖 .A) (givenOf 𝓤 H 𝓜 𝓖) (𝓜 .mem) (𝓡 .run) (tablesOf 𝓤 H 𝓜 (tables 𝓤 H 𝓜 𝓡 code.env))
-    (cited 𝓤 H (Bounding 𝓤 H (𝓖 .A) (𝓜 .mem) (𝓡 .run)) 𝓜 𝓡 code.env #ramp·at-most-all bounding-def.routine code.calls-ramp·at-most-all (bounding-thm.met 𝓤 H 𝓜 𝓖 𝓡))
+    (cited 𝓤 H (Bounding 𝓤 H (𝓖 .A) (𝓜 .mem) (𝓡 .run)) 𝓜 𝓡 code.env #ramp·at-most-256 bounding-def.routine code.calls-ramp·at-most-256 (bounding-thm.met 𝓤 H 𝓜 𝓖 𝓡))
     (cited 𝓤 H (Writing 𝓤 H (𝓖 .A) (𝓜 .mem) (𝓡 .run)) 𝓜 𝓡 code.env #ramp·write-ramp writing-def.routine code.calls-ramp·write-ramp (writing-thm.met 𝓤 H 𝓜 𝓖 𝓡)))
