@@ -1,40 +1,18 @@
 -- Between two neighbours (p, s) and (q, t): code and remainder restore the exact fraction, at the neighbours they are theirs, and the code lies between theirs.
 -- Assumes nothing.
-use mathlib.Core.Path.{_≡_, sym, subst, _∙_}
-use Prim.Native.Nat.{ℕ, suc, _+_, _-_, _*_, _/_, _%_, _≤_, _<_}
-use native.Mathlib.Nat.{add-mul, suc-mul, zero-mul, sub-self, mod-lt, zero-mod, zero-div, div-add-mod', mul-mod-left, mul-div-cancel}
+use mathlib.Core.Path.{_≡_, sym, ap, subst, _∙_}
+use Prim.Native.Nat.{ℕ, _+_, _-_, _*_, _/_, _≤_, _<_}
+use native.Mathlib.Nat.{add-mul, sub-self}
 use native.Mathlib.Omega.{arith}
 use mathlib.Core.Bool.{Bool, true, false, not}
 use mathlib.Core.Logic.{_⊎_, inl, inr}
 use lib.Dec.{T, leb, leb→le, le→leb, nleb→lt}
-use lib.IntN.{ℤ, pos, negsuc, _+ℤ_, _-ℤ_, _*ℤ_}
+use lib.IntN.{ℤ, pos, negsuc, _+ℤ_, _-ℤ_, _*ℤ_, *ℤ-zero, zero-*ℤ, +ℤ-idr, +ℤ-comm, -ℤ-+ℤ-cancel}
 use lib.Signed.{_≤ℤ_}
 use Rattle.ramp.specs.Interpolation.{floorDiv, floorMod, codeBetween, remainderBetween}
 use Rattle.ramp.specs.Laws.{Exact}
-use Rattle.ramp.proofs.Signs.{Diff, over, under, diff-own, diff-add, diff-sub, diff-mul, diff-same, diff-to}
-use Rattle.ramp.proofs.Rounding.{floor-of, mean, mean-of, mean-between}
-
--- ---- Rounding down
-
-floor-small : (x : ℤ) (w : ℕ) → 0 < w → floorMod x w < w
-unfolding floorMod
-floor-small (pos a) w W = mod-lt a W
-floor-small (negsuc a) w W = omega arith
-
-floored : (x : ℤ) (w : ℕ) → 0 < w → floorDiv x w *ℤ pos w +ℤ pos (floorMod x w) ≡ x
-unfolding floorDiv floorMod
-floored (pos a) w W =
-    let k = div-add-mod' a w in
-    let z = zero-mul w in
-    diff-same (pos (a / w) *ℤ pos w +ℤ pos (a % w)) (pos a) (a / w * w + a % w) (0 * w + 0) a 0
-    (diff-add (pos (a / w) *ℤ pos w) (pos (a % w)) (a / w * w) (0 * w) (a % w) 0 (diff-mul (pos (a / w)) w (a / w) 0 (omega arith)) (omega arith)) (omega arith) (omega arith)
-floored (negsuc a) w W =
-    let k = div-add-mod' a w in
-    let r = mod-lt a W in
-    let z = zero-mul w in
-    let m = suc-mul (a / w) w in
-    diff-same (negsuc (a / w) *ℤ pos w +ℤ pos (w - suc (a % w))) (negsuc a) (0 * w + (w - suc (a % w))) (suc (a / w) * w + 0) 0 (suc a)
-    (diff-add (negsuc (a / w) *ℤ pos w) (pos (w - suc (a % w))) (0 * w) (suc (a / w) * w) (w - suc (a % w)) 0 (diff-mul (negsuc (a / w)) w 0 (suc (a / w)) (omega arith)) (omega arith)) (omega arith) (omega arith)
+use Rattle.ramp.proofs.Signs.{Diff, over, under, diff-own, diff-add, diff-mul, diff-same, diff-scale}
+use Rattle.ramp.proofs.Rounding.{floor-exact, floor-only, mean, mean-of, mean-between}
 
 -- ---- The order, by differences from one number
 
@@ -56,27 +34,15 @@ module _ (p : ℕ) (s : ℤ) (q : ℕ) (t : ℤ) (apart : p < q) where
   pub at-start : (codeBetween p s q t p ≡ s) × (remainderBetween p s q t p ≡ 0)
   unfolding codeBetween remainderBetween
   at-start =
-      let z = t -ℤ s in
-      let x = z *ℤ pos (p - p) in
-      let zero-rise : Diff x 0 (0 * w) =
-      subst (λ (d : ℕ). Diff (z *ℤ pos d) 0 (0 * w)) (sym (sub-self p))
-      (diff-to (z *ℤ pos 0) (over z * 0) (under z * 0) 0 (0 * w) (diff-mul z 0 (over z) (under z) (diff-own z)) (let a = zero-mul w in omega arith)) in
-      let f = floor-of x w 0 0 W zero-rise in (
-        diff-same (s +ℤ floorDiv x w) s (over s + 0 / w) (under s + 0) (over s) (under s) (diff-add s (floorDiv x w) (over s) (under s) (0 / w) 0 (diff-own s) (f .0)) (diff-own s) (let a = zero-div w in omega arith),
-        f .1 ∙ zero-mod w,
-      )
+      let x-is : (t -ℤ s) *ℤ pos (p - p) ≡ pos 0 = ap (λ (d : ℕ). (t -ℤ s) *ℤ pos d) (sub-self p) ∙ *ℤ-zero (t -ℤ s) in
+      let f = floor-only ((t -ℤ s) *ℤ pos (p - p)) w W (pos 0) 0 W (ap (λ (y : ℤ). y +ℤ pos 0) (zero-*ℤ (pos w)) ∙ sym x-is) in
+      (ap (λ (y : ℤ). s +ℤ y) (f .0) ∙ +ℤ-idr s, f .1)
 
   pub at-end : (codeBetween p s q t q ≡ t) × (remainderBetween p s q t q ≡ 0)
   unfolding codeBetween remainderBetween
   at-end =
-      let z = t -ℤ s in
-      let x = z *ℤ pos w in
-      let d : Diff z (over t + under s) (under t + over s) = diff-sub t s (over t) (under t) (over s) (under s) (diff-own t) (diff-own s) in
-      let f = floor-of x w ((over t + under s) * w) (under t + over s) W (diff-mul z w (over t + under s) (under t + over s) d) in (
-        diff-same (s +ℤ floorDiv x w) t (over s + (over t + under s) * w / w) (under s + (under t + over s)) (over t) (under t)
-            (diff-add s (floorDiv x w) (over s) (under s) ((over t + under s) * w / w) (under t + over s) (diff-own s) (f .0)) (diff-own t) (let a = mul-div-cancel (over t + under s) {n = w} W in omega arith),
-        f .1 ∙ mul-mod-left (over t + under s) w,
-      )
+      let f = floor-only ((t -ℤ s) *ℤ pos w) w W (t -ℤ s) 0 W (+ℤ-idr ((t -ℤ s) *ℤ pos w)) in
+      (ap (λ (y : ℤ). s +ℤ y) (f .0) ∙ +ℤ-comm s (t -ℤ s) ∙ -ℤ-+ℤ-cancel t s, f .1)
 
   -- ---- Between them
 
@@ -89,19 +55,15 @@ module _ (p : ℕ) (s : ℤ) (q : ℕ) (t : ℤ) (apart : p < q) where
         let r = floorMod x w in
         let e₁ = add-mul (over s) (over f) w in
         let e₂ = add-mul (under s) (under f) w in
-        let lhs : Diff ((s +ℤ f) *ℤ pos w +ℤ pos r) ((over s + over f) * w + r) ((under s + under f) * w + 0) =
-        diff-add ((s +ℤ f) *ℤ pos w) (pos r) ((over s + over f) * w) ((under s + under f) * w) r 0
-        (diff-mul (s +ℤ f) w (over s + over f) (under s + under f) (diff-add s f (over s) (under s) (over f) (under f) (diff-own s) (diff-own f))) (omega arith) in
-        let one : Diff (f *ℤ pos w +ℤ pos r) (over f * w + r) (under f * w + 0) =
-        diff-add (f *ℤ pos w) (pos r) (over f * w) (under f * w) r 0 (diff-mul f w (over f) (under f) (diff-own f)) (omega arith) in
-        let rhs : Diff (s *ℤ pos w +ℤ x) (over s * w + (over f * w + r)) (under s * w + (under f * w + 0)) =
-        diff-add (s *ℤ pos w) x (over s * w) (under s * w) (over f * w + r) (under f * w + 0) (diff-mul s w (over s) (under s) (diff-own s))
-        (subst (λ (y : ℤ). Diff y (over f * w + r) (under f * w + 0)) (floored x w W) one) in
-        diff-same ((s +ℤ f) *ℤ pos w +ℤ pos r) (s *ℤ pos w +ℤ x) ((over s + over f) * w + r) ((under s + under f) * w + 0) (over s * w + (over f * w + r)) (under s * w + (under f * w + 0)) lhs rhs (omega arith)
+        let sum : Diff (s +ℤ f) (over s + over f) (under s + under f) = diff-add s f (over s) (under s) (over f) (under f) (diff-own s) (diff-own f) in
+        let x-is : Diff x (over f * w + r) (under f * w) = subst (λ (y : ℤ). Diff y (over f * w + r) (under f * w)) (floor-exact x w W .0) (diff-scale f w r (over f) (under f) (diff-own f)) in
+        diff-same ((s +ℤ f) *ℤ pos w +ℤ pos r) (s *ℤ pos w +ℤ x) ((over s + over f) * w + r) ((under s + under f) * w) (over s * w + (over f * w + r)) (under s * w + under f * w)
+        (diff-scale (s +ℤ f) w r (over s + over f) (under s + under f) sum)
+        (diff-add (s *ℤ pos w) x (over s * w) (under s * w) (over f * w + r) (under f * w) (diff-mul s w (over s) (under s) (diff-own s)) x-is) (omega arith)
 
     small : remainderBetween p s q t i < w
     unfolding remainderBetween
-    small = floor-small ((t -ℤ s) *ℤ pos (i - p)) w W
+    small = floor-exact ((t -ℤ s) *ℤ pos (i - p)) w W .1
 
     -- s and t in offset binary
     module _ (u v : ℕ) (hs : Diff s u 32768) (ht : Diff t v 32768) (before : i ≤ q) where

@@ -1,6 +1,6 @@
 -- What every call leaves in the lent buffers (specs/Laws). Assumes nothing.
 use mathlib.Core.Path.{_≡_, refl, sym, ap, subst, _∙_}
-use Prim.Native.Nat.{ℕ, zero, suc, _+_, _-_, _*_, _/_, _%_, _≤_, _<_}
+use Prim.Native.Nat.{ℕ, zero, suc, _+_, _-_, _*_, _/_, _%_, _<_}
 use native.Mathlib.Nat.{eq-or-lt-of-le}
 use native.Mathlib.Numerals.{add-one}
 use native.Mathlib.Omega.{arith}
@@ -13,7 +13,7 @@ use lib.ListN.{length, getD}
 use Rattle.ramp.specs.declared.Breakpoint.{Breakpoint}
 use Rattle.ramp.specs.Answers.{Answer, wrote, refused}
 use Rattle.ramp.specs.Interpolation.{twosComplement}
-use Rattle.ramp.specs.Ramp.{zeroPoint, Segment, segment, segmentOf, codeIn, remainderIn, indexAt, codeAt, lastIndex, isValid, codeWord, remainderWord, overwritten, rampAnswer, rampCodes, rampRemainders}
+use Rattle.ramp.specs.Ramp.{Segment, segmentOf, codeIn, remainderIn, indexAt, codeAt, lastIndex, isValid, codeWord, remainderWord, overwritten, rampAnswer, rampCodes, rampRemainders}
 use Rattle.ramp.specs.Rules.{CodesInRange, Rules}
 use Rattle.ramp.specs.Laws.{Between, signed, Exact, Written, RampWritten, RampRefused}
 use Rattle.ramp.proofs.Signs.{Diff}
@@ -21,7 +21,7 @@ use Rattle.ramp.proofs.Range.{offset-in, wordsPlusOne}
 use Rattle.ramp.proofs.Rounding.{only, read-bits, bits-small}
 use Rattle.ramp.proofs.Exact.{at-start, at-end, offset-of-code, exact-of}
 use Rattle.ramp.proofs.Validity.{valid-rules, rules-valid}
-use Rattle.ramp.proofs.Segments.{InSegment, segment-at, near-of, located, in-segment, in-first, below-last}
+use Rattle.ramp.proofs.Segments.{neighbours, InSegment, segment-at, bracketed, located, in-segment, in-first, below-last}
 use Rattle.ramp.proofs.Words.{overwritten-length, overwritten-below, overwritten-past}
 
 -- ---- What an answer says
@@ -73,41 +73,28 @@ module _ (ps : List Breakpoint) (n : ℕ) (codes remainders : List ℕ) (range :
   abbrev d : ℕ
   d = length remainders
 
-  -- the neighbours k and k + 1
-  abbrev seg : ℕ → Segment
-  seg k = segment (getD ps k zeroPoint) (getD ps (suc k) zeroPoint)
-
-  seg-at : (k i : ℕ) → InSegment ps k i → segmentOf ps i ≡ seg k
-  seg-at k i s = segment-at ps k i s ∙ ap (λ (j : ℕ). segment (getD ps k zeroPoint) (getD ps j zeroPoint)) (add-one k)
-
   between-of : (k i : ℕ) → InSegment ps k i → Between ps k i
-  between-of k i s =
-      let m = s .more in
-      record { neighbours = omega arith; from = near-of ps n c d rules k i s .after; to = subst (λ (j : ℕ). i ≤ indexAt ps j) (add-one k) (s .end) }
-
-  -- past its first neighbour an index stands in their segment
-  inside : (k i : ℕ) → suc k < length ps → indexAt ps k < i → i ≤ indexAt ps (suc k) → InSegment ps k i
-  inside k i m l h = in-segment ps n c d rules k i (omega arith) l (subst (λ (j : ℕ). i ≤ indexAt ps j) (sym (add-one k)) h)
+  between-of k i s = record { neighbours = s .more; from = bracketed ps n c d rules k i s .after; to = s .end }
 
   -- at a breakpoint that two segments share they say the same
-  same : (k i : ℕ) → Between ps k i → (codeIn (segmentOf ps i) i ≡ codeIn (seg k) i) × (remainderIn (segmentOf ps i) i ≡ remainderIn (seg k) i)
-  same zero i b = let e = seg-at 0 i (in-first ps n c d rules i (b .to)) in (ap (λ (g : Segment). codeIn g i) e, ap (λ (g : Segment). remainderIn g i) e)
+  same : (k i : ℕ) → Between ps k i → (codeIn (segmentOf ps i) i ≡ codeIn (neighbours ps k) i) × (remainderIn (segmentOf ps i) i ≡ remainderIn (neighbours ps k) i)
+  same zero i b = let e = segment-at ps 0 i (in-first ps n c d rules i (b .to)) in (ap (λ (g : Segment). codeIn g i) e, ap (λ (g : Segment). remainderIn g i) e)
   same (suc j) i b = ⊎-elim
       (λ (e : indexAt ps (suc j) ≡ i).
-      subst (λ (x : ℕ). (codeIn (segmentOf ps x) x ≡ codeIn (seg (suc j)) x) × (remainderIn (segmentOf ps x) x ≡ remainderIn (seg (suc j)) x)) e shared)
+      subst (λ (x : ℕ). (codeIn (segmentOf ps x) x ≡ codeIn (neighbours ps (suc j)) x) × (remainderIn (segmentOf ps x) x ≡ remainderIn (neighbours ps (suc j)) x)) e shared)
       (λ (l : indexAt ps (suc j) < i).
-      let e = seg-at (suc j) i (inside (suc j) i (b .neighbours) l (b .to)) in
+      let e = segment-at ps (suc j) i (in-segment ps n c d rules (suc j) i (b .neighbours) l (b .to)) in
       (ap (λ (g : Segment). codeIn g i) e, ap (λ (g : Segment). remainderIn g i) e))
       (eq-or-lt-of-le (b .from))
     where
       shared :
-          (codeIn (segmentOf ps (indexAt ps (suc j))) (indexAt ps (suc j)) ≡ codeIn (seg (suc j)) (indexAt ps (suc j)))
-          × (remainderIn (segmentOf ps (indexAt ps (suc j))) (indexAt ps (suc j)) ≡ remainderIn (seg (suc j)) (indexAt ps (suc j)))
+          (codeIn (segmentOf ps (indexAt ps (suc j))) (indexAt ps (suc j)) ≡ codeIn (neighbours ps (suc j)) (indexAt ps (suc j)))
+          × (remainderIn (segmentOf ps (indexAt ps (suc j))) (indexAt ps (suc j)) ≡ remainderIn (neighbours ps (suc j)) (indexAt ps (suc j)))
       shared =
           let x = indexAt ps (suc j) in
           let m = b .neighbours in
           let up = rules .increasing j (omega arith) in
-          let e = seg-at j x (inside j x (omega arith) up (omega arith)) in
+          let e = segment-at ps j x (in-segment ps n c d rules j x (omega arith) up (omega arith)) in
           let f = at-end (indexAt ps j) (codeAt ps j) x (codeAt ps (suc j)) up in
           let g = at-start x (codeAt ps (suc j)) (indexAt ps (suc (suc j))) (codeAt ps (suc (suc j))) (rules .increasing (suc j) m) in
           (ap (λ (s : Segment). codeIn s x) e ∙ f .0 ∙ sym (g .0), ap (λ (s : Segment). remainderIn s x) e ∙ f .1 ∙ sym (g .1))
@@ -125,7 +112,7 @@ module _ (ps : List Breakpoint) (n : ℕ) (codes remainders : List ℕ) (range :
 
   module _ (k i : ℕ) (b : Between ps k i) where
     abbrev z : ℤ
-    z = codeIn (seg k) i
+    z = codeIn (neighbours ps k) i
 
     up : indexAt ps k < indexAt ps (suc k)
     up = rules .increasing k (b .neighbours)
@@ -158,7 +145,7 @@ module _ (ps : List Breakpoint) (n : ℕ) (codes remainders : List ℕ) (range :
     high-is : getD codes′ i 0 / 65536 ≡ mark i
     high-is = ap (λ (m : ℕ). m / 65536) word-is ∙ parts z (offset .0) (offset .1) (offset .2) (mark i) .0
 
-    remainder-is : getD remainders′ i 0 ≡ remainderIn (seg k) i
+    remainder-is : getD remainders′ i 0 ≡ remainderIn (neighbours ps k) i
     unfolding remainderWord
     remainder-is =
         let h = rules .last in

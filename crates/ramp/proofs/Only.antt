@@ -1,47 +1,18 @@
 -- The laws fix every word (`WrittenOnly`, specs/Laws). Assumes nothing.
-use mathlib.Core.Path.{_≡_, refl, sym, ap, subst, _∙_}
-use Prim.Native.Nat.{ℕ, suc, _+_, _-_, _*_, _/_, _%_, _≤_, _<_}
-use native.Mathlib.Nat.{add-mul, mod-lt, div-add-mod'}
+use mathlib.Core.Path.{_≡_, sym, ap, _∙_}
+use Prim.Native.Nat.{ℕ, suc, _-_, _/_, _%_, _≤_, _<_}
+use native.Mathlib.Nat.{mod-lt, div-add-mod'}
 use native.Mathlib.Omega.{arith}
 use mathlib.Core.Bool.{Bool, true, false, not}
 use mathlib.Core.List.{List}
 use lib.Dec.{T, ltb, ltb→lt, nltb→le, lit<}
-use lib.IntN.{ℤ, pos, _+ℤ_, _*ℤ_}
 use lib.ListN.{getD}
 use lib.Seq.{ext-getD}
 use Rattle.ramp.specs.declared.Breakpoint.{Breakpoint}
 use Rattle.ramp.specs.Interpolation.{twosComplement}
 use Rattle.ramp.specs.Ramp.{indexAt}
 use Rattle.ramp.specs.Laws.{signed, Written, WrittenOnly}
-use Rattle.ramp.proofs.Signs.{Diff, over, under, diff-own, diff-add, diff-mul, diff-one, diff-same}
-use Rattle.ramp.proofs.Rounding.{only, bits-of}
-
--- a code and a remainder below the width are the only ones that restore a number
-module _ (y z : ℤ) (w a b : ℕ) (la : a < w) (lb : b < w) (e : y *ℤ pos w +ℤ pos a ≡ z *ℤ pos w +ℤ pos b) where
-  whole : (x : ℤ) (c : ℕ) → Diff (x *ℤ pos w +ℤ pos c) (over x * w + c) (under x * w + 0)
-  whole x c = diff-add (x *ℤ pos w) (pos c) (over x * w) (under x * w) c 0 (diff-mul x w (over x) (under x) (diff-own x)) (omega arith)
-
-  crossed : (over y + under z) * w + a ≡ (over z + under y) * w + b
-  crossed =
-      let h : over y * w + a + (under z * w + 0) ≡ over z * w + b + (under y * w + 0) =
-      diff-one (z *ℤ pos w +ℤ pos b) (over y * w + a) (under y * w + 0) (over z * w + b) (under z * w + 0)
-      (subst (λ (x : ℤ). Diff x (over y * w + a) (under y * w + 0)) e (whole y a)) (whole z b) in
-      let f = add-mul (over y) (under z) w in
-      let g = add-mul (over z) (under y) w in
-      omega arith
-
-  parts : (over y + under z ≡ over z + under y) × (a ≡ b)
-  parts =
-      let n = (over y + under z) * w + a in
-      let p = only n (over y + under z) a w refl la in
-      let q = only n (over z + under y) b w crossed lb in
-      (sym (p .0) ∙ q .0, sym (p .1) ∙ q .1)
-
-  pub code-only : y ≡ z
-  code-only = diff-same y z (over y) (under y) (over z) (under z) (diff-own y) (diff-own z) (parts .0)
-
-  pub remainder-only : a ≡ b
-  remainder-only = parts .1
+use Rattle.ramp.proofs.Rounding.{restores-only, bits-of}
 
 -- a word is its code and its high bits
 word-only : (x y : ℕ) → signed x ≡ signed y → x / 65536 ≡ y / 65536 → x ≡ y
@@ -59,12 +30,8 @@ module _ (ps : List Breakpoint) (words : ℕ) (codes remainders codes′ remaind
       let e = one .exact (k .0) i (k .1) in
       let f = two .exact (k .0) i (k .1) in
       let w = indexAt ps (suc (k .0)) - indexAt ps (k .0) in
-      let g = e .restores ∙ sym (f .restores) in (
-        word-only (getD codes′ i 0) (getD codes″ i 0)
-            (code-only (signed (getD codes′ i 0)) (signed (getD codes″ i 0)) w (getD remainders′ i 0) (getD remainders″ i 0) (e .below) (f .below) g)
-            (one .high i l ∙ sym (two .high i l)),
-        remainder-only (signed (getD codes′ i 0)) (signed (getD codes″ i 0)) w (getD remainders′ i 0) (getD remainders″ i 0) (e .below) (f .below) g,
-      )
+      let same = restores-only (signed (getD codes′ i 0)) (signed (getD codes″ i 0)) w (getD remainders′ i 0) (getD remainders″ i 0) (e .below) (f .below) (e .restores ∙ sym (f .restores)) in
+      (word-only (getD codes′ i 0) (getD codes″ i 0) (same .0) (one .high i l ∙ sym (two .high i l)), same .1)
 
   at-each : (i : ℕ) → (getD codes′ i 0 ≡ getD codes″ i 0) × (getD remainders′ i 0 ≡ getD remainders″ i 0)
   at-each i = go (ltb i words) (ltb→lt i words) (nltb→le i words)

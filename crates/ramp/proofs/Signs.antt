@@ -70,6 +70,11 @@ pub diff-to : (z : ℤ) (p q r s : ℕ) → Diff z p q → p + s ≡ r + q → D
 diff-to (pos n) p q r s h e = omega arith
 diff-to (negsuc n) p q r s h e = omega arith
 
+-- so many times it, and a number more
+pub diff-scale : (z : ℤ) (k c p q : ℕ) → Diff z p q → Diff (z *ℤ pos k +ℤ pos c) (p * k + c) (q * k)
+diff-scale z k c p q h =
+    diff-to (z *ℤ pos k +ℤ pos c) (p * k + c) (q * k + 0) (p * k + c) (q * k) (diff-add (z *ℤ pos k) (pos c) (p * k) (q * k) c 0 (diff-mul z k p q h) (omega arith)) (omega arith)
+
 -- as a sum, which a contract can say
 pub diff-sum : (z : ℤ) (p q : ℕ) → Diff z p q → z +ℤ pos q ≡ pos p
 diff-sum z p q h = diff-same (z +ℤ pos q) (pos p) (p + q) (q + 0) p 0 (diff-add z (pos q) p q q 0 h (omega arith)) (omega arith) (omega arith)

@@ -11,6 +11,7 @@ pub data Answer : Type 0 where
   -- document 01: "A refusal returns its number alone."
   refused : (number : ℕ) → Answer
 
+-- what each case of the code's answer stands for
 abbrev pub countOf : WordCount → Answer
 countOf (count.Words k) = wrote k
 countOf (count.Refused r) = refused (numberOf r)

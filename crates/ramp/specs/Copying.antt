@@ -1,4 +1,4 @@
--- The list of breakpoints by value, as the code holds it, and what its private functions ask for. No contract of a call open to callers speaks of it.
+-- Document 02, card 4: the "one list of records" by value, as the code holds it, and what its private functions ask for. No contract of a call open to callers speaks of it.
 use mathlib.Core.Path.{_≡_}
 use Prim.Native.Nat.{ℕ, zero, suc, _+_, _≤_, _<_}
 use mathlib.Core.Bool.{cond}
@@ -9,12 +9,14 @@ use Rattle.ramp.specs.declared.Breakpoint.{Breakpoint}
 use Rattle.ramp.specs.declared.Breakpoints.{Breakpoints}
 use Rattle.ramp.specs.Ramp.{zeroPoint}
 
+-- the list that it stands for
 abbrev pub listed : Breakpoints → List Breakpoint
 listed l = take (l .count) (l .points)
 
 abbrev pub emptyList : Breakpoints
 emptyList = record { count = 0; points = replicate 64 zeroPoint }
 
+-- with one more
 abbrev pub appended : Breakpoints → Breakpoint → Breakpoints
 appended l p = record { count = l .count + 1; points = set (l .points) (l .count) p }
 

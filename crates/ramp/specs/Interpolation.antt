@@ -16,6 +16,7 @@ floorMod (negsuc a) w = w - suc (a % w)
 unfoldable pub codeBetween : (p : ℕ) (s : ℤ) (q : ℕ) (t : ℤ) (i : ℕ) → ℤ
 codeBetween p s q t i = s +ℤ floorDiv ((t -ℤ s) *ℤ pos (i - p)) (q - p)
 
+-- "and the remainder left over": of the same division
 unfoldable pub remainderBetween : (p : ℕ) (s : ℤ) (q : ℕ) (t : ℤ) (i : ℕ) → ℕ
 remainderBetween p s q t i = floorMod ((t -ℤ s) *ℤ pos (i - p)) (q - p)
 

@@ -17,12 +17,14 @@ use Rattle.ramp.specs.Interpolation.{codeBetween, remainderBetween, twos
 abbrev pub zeroPoint : Breakpoint
 zeroPoint = record { index = 0; code = pos 0 }
 
+-- "an index" and "a signed code": those of breakpoint k, from 0
 abbrev pub indexAt : List Breakpoint → ℕ → ℕ
 indexAt ps k = getD ps k zeroPoint .index
 
 abbrev pub codeAt : List Breakpoint → ℕ → ℤ
 codeAt ps k = getD ps k zeroPoint .code
 
+-- "the last" index
 abbrev pub lastIndex : List Breakpoint → ℕ
 lastIndex ps = indexAt ps (length ps - 1)
 
@@ -68,16 +70,18 @@ segmentOf [] i = segment zeroPoint zeroPoint
 segmentOf (a ∷ []) i = segment a a
 segmentOf (a ∷ b ∷ ps) i = segmentFrom a b ps i
 
+-- "the code", and "the remainder left over", at an index of a segment
 abbrev pub codeIn : Segment → ℕ → ℤ
 codeIn g i = codeBetween (g .from .index) (g .from .code) (g .to .index) (g .to .code) i
 
 abbrev pub remainderIn : Segment → ℕ → ℕ
 remainderIn g i = remainderBetween (g .from .index) (g .from .code) (g .to .index) (g .to .code) i
 
--- "D31 marks the last word, the other high bits are 0"
+-- what goes "to one lent buffer" at an index: "D31 marks the last word, the other high bits are 0"
 unfoldable pub codeWord : List Breakpoint → ℕ → ℕ
 codeWord ps i = twosComplement (codeIn (segmentOf ps i) i) + cond (eqb i (lastIndex ps)) 0x80000000 0
 
+-- "and the remainder left over", as it is, "to a second"
 unfoldable pub remainderWord : List Breakpoint → ℕ → ℕ
 remainderWord ps i = remainderIn (segmentOf ps i) i
 

@@ -30,28 +30,27 @@ fn breakpoints(words: &[u32]) -> [Breakpoint; 256] {
     points
 }
 
-fn at_most_half(count: u32) -> usize {
-    if 1024 < count {
-        return 1024;
-    }
-    count as usize
-}
+// Each half of the setpoint pool: for the codes the first, for the remainders the second.
+const HALF: usize = 1024;
 
-// The remainders stand in the second half of the setpoint pool. Two parts of it cannot be lent at a time, so they are a copy, which is put back.
+// Two parts of a pool cannot be lent at a time, so the remainders are a copy, which is put back.
 pub fn call(setpoints: &mut [u32], readbacks: &[u32], record: Record) -> WordCount {
-    let half = Span {
-        from: 1024,
-        length: 1024,
+    let second = Span {
+        from: HALF,
+        length: HALF,
     };
-    let mut remainders = [0u32; 1024];
-    pool::copy(pool::part(setpoints, half), &mut remainders);
+    let mut remainders = [0u32; HALF];
+    pool::copy(pool::part(setpoints, second), &mut remainders);
     let answer = ramp::write_ramp_by_value(
         breakpoints(readbacks),
         (record.y % 65536) as usize,
         record.x,
-        pool::front_mut(setpoints, at_most_half(record.z % 65536)),
-        pool::front_mut(&mut remainders, at_most_half(record.z / 65536)),
+        pool::front_mut(
+            pool::front_mut(setpoints, HALF),
+            (record.z % 65536) as usize,
+        ),
+        pool::front_mut(&mut remainders, (record.z / 65536) as usize),
     );
-    pool::copy(&remainders, pool::part_mut(setpoints, half));
+    pool::copy(&remainders, pool::part_mut(setpoints, second));
     answer
 }
