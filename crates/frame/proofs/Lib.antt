@@ -4,3 +4,4 @@ pub mod Remainders
 pub mod Messages
 pub mod Frames
 pub mod Laws
+pub mod Table

@@ -79,19 +79,32 @@ crc-more s i h b = sym (crc-byte (ofBytes (take i s)) (getD s i 0) b) ∙ ap crc
 pub crc-all : (s : List ℕ) (i : ℕ) → length s ≤ i → crcOf (ofBytes (take i s)) ≡ crcOf (ofBytes s)
 crc-all s i h = ap (λ (l : List ℕ). crcOf (ofBytes l)) (take-all i s h)
 
+-- bytes brought in one after the other, from the remainder r: each leaves the CRC of remainder and byte together
+abbrev pub stepped : ℕ → List ℕ → ℕ
+stepped r [] = r
+stepped r (b ∷ bs) = stepped (crcOf (bitXor r b)) bs
+
+pub byte-steps : (m : ℕ) (bytes : List ℕ) → ((k : ℕ) → getD bytes k 0 < 2 ^ 8) → stepped (crcOf m) bytes ≡ crcOf (withBytes m bytes)
+byte-steps m [] h = refl
+byte-steps m (b ∷ bs) h = ap (λ (r : ℕ). stepped r bs) (sym (crc-byte m b (h 0))) ∙ byte-steps (m * 2 ^ 8 + b) bs (λ k. h (suc k))
+
 -- ---- the middle bits of a frame
 
-middle-bytes : (id word aux : ℕ) → ((id * 2 ^ 8 + word / 256) * 2 ^ 8 + word % 256) * 2 ^ 8 + aux ≡ middle id word aux
-middle-bytes id word aux = omega arith
+-- their bytes, high byte first
+abbrev pub middleBytes : ℕ → ℕ → ℕ → List ℕ
+middleBytes id word aux = id ∷ word / 2 ^ 8 ∷ word % 2 ^ 8 ∷ aux ∷ []
+
+pub middle-fits : (id word aux : ℕ) → id < 2 ^ 8 → word < 2 ^ 16 → aux < 2 ^ 8 → (k : ℕ) → getD (middleBytes id word aux) k 0 < 2 ^ 8
+middle-fits id word aux hi hw ha zero = hi
+middle-fits id word aux hi hw ha (suc zero) = omega arith
+middle-fits id word aux hi hw ha (suc (suc zero)) = mod-lt word (lit< tt)
+middle-fits id word aux hi hw ha (suc (suc (suc zero))) = ha
+middle-fits id word aux hi hw ha (suc (suc (suc (suc k)))) = lit< tt
 
 -- four steps are the CRC of the middle bits
-pub crc-middle : (id word aux : ℕ) → word < 2 ^ 16 → aux < 2 ^ 8
-    → crcOf (bitXor (crcOf (bitXor (crcOf (bitXor (crcOf id) (word / 256))) (word % 256))) aux) ≡ crcFor id word aux
-unfolding crcFor
-crc-middle id word aux hw ha =
-    let top = id * 2 ^ 8 + word / 256 in
-    let all = top * 2 ^ 8 + word % 256 in
-    ap (λ (x : ℕ). crcOf (bitXor (crcOf (bitXor x (word % 256))) aux)) (sym (crc-byte id (word / 256) (omega arith)))
-    ∙ ap (λ (x : ℕ). crcOf (bitXor x aux)) (sym (crc-byte top (word % 256) (mod-lt word (lit< tt))))
-    ∙ sym (crc-byte all aux ha)
-    ∙ ap crcOf (middle-bytes id word aux)
+pub crc-middle : (id word aux : ℕ) → id < 2 ^ 8 → word < 2 ^ 16 → aux < 2 ^ 8 → stepped 0 (middleBytes id word aux) ≡ crcFor id word aux
+unfolding crcOf crcFor
+crc-middle id word aux hi hw ha = byte-steps 0 (middleBytes id word aux) (middle-fits id word aux hi hw ha) ∙ ap crcOf message
+  where
+    message : ofBytes (middleBytes id word aux) ≡ middle id word aux
+    message = omega arith

@@ -131,7 +131,7 @@ congruent-double {a} {r} h =
       divides = ap (λ (x : ℕ). x * 2) (h .divides) ∙ sym (xor-shl 1 (product generator (h .quotient)) r);
     }
 
-pub shl-suc : (a k : ℕ) → a * 2 ^ suc k ≡ a * 2 ^ k * 2
+shl-suc : (a k : ℕ) → a * 2 ^ suc k ≡ a * 2 ^ k * 2
 shl-suc a k = ap (λ (x : ℕ). a * x) (pow-suc 2 k) ∙ sym (mul-assoc a (2 ^ k) 2)
 
 pub congruent-shl : {a r : ℕ} (k : ℕ) → Congruent a r → Congruent (a * 2 ^ k) (r * 2 ^ k)

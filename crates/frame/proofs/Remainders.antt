@@ -4,9 +4,8 @@ use mathlib.Core.Logic.{_⊎_, inl, inr, ⊎-elim}
 use mathlib.Core.Bool.{Bool, true, false, cond}
 use mathlib.Core.List.{[], _∷_}
 use Prim.Native.Nat.{ℕ, zero, suc, _+_, _*_, _/_, _%_, _^_, _≤_, _<_}
-use native.Mathlib.Nat.{mod-lt, le-refl, not-suc-le-zero, mul-one}
+use native.Mathlib.Nat.{mod-lt, le-refl, not-suc-le-zero}
 use native.Mathlib.Decide.{le-ind}
-use native.Mathlib.Numerals.{add-one}
 use native.Mathlib.Omega.{arith}
 use lib.Arith.{half-le, bin-ind}
 use lib.Dec.{ltb, lit<}
@@ -16,7 +15,7 @@ use lib.Bits.{bitXor, xor-lt, xor-shr, xor-zero-r, xor-comm, xor-shifted}
 use Rattle.frame.specs.Polynomials.{generator, product, Remainder}
 use Rattle.frame.specs.Crc.{reduced, bitIn, divided, crcOf}
 use Rattle.frame.proofs.Xor.{xor-cancel}
-use Rattle.frame.proofs.Multiples.{generator-top, Congruent, congruent-refl, congruent-xor, congruent-trans, congruent-double, shl-suc, congruent-shl, congruent-unique}
+use Rattle.frame.proofs.Multiples.{generator-top, Congruent, congruent-refl, congruent-xor, congruent-trans, congruent-double, congruent-shl, congruent-unique}
 
 -- ---- there is one remainder
 
@@ -76,7 +75,7 @@ congruent-bitIn : {a r : ℕ} (b : ℕ) → Congruent a r → Congruent (bitXor 
 unfolding bitIn
 congruent-bitIn {a} {r} b h = congruent-trans (congruent-xor (congruent-double h) (congruent-refl (b * 256))) (congruent-reduced (bitXor (r * 2) (b * 256)))
 
-pub bitIn-low : (r b : ℕ) → r < 2 ^ 8 → b < 2 → bitIn r b < 2 ^ 8
+bitIn-low : (r b : ℕ) → r < 2 ^ 8 → b < 2 → bitIn r b < 2 ^ 8
 unfolding bitIn
 bitIn-low r b hr hb = reduced-low (bitXor (r * 2) (b * 256)) (xor-lt 9 (r * 2) (b * 256) (omega arith) (omega arith))
 
@@ -149,7 +148,7 @@ remainder-exists a = (bitXor (crcOf (a / 2 ^ 8)) (a % 2 ^ 8), remainder-any a)
 pub crc-bit : (n b : ℕ) → b < 2 → crcOf (n * 2 + b) ≡ bitIn (crcOf n) b
 crc-bit n b h = crc-step (n * 2 + b) ∙ ap₂ (λ (x y : ℕ). bitIn (crcOf x) y) (omega arith) (omega arith)
 
--- with the table of remainders of b x^8, b a byte, this is the usual step
+-- so a byte comes in by a look-up in the list of remainders of b x^8, b a byte: `bytesIn` of specs/Table.antt
 pub crc-byte : (n b : ℕ) → b < 2 ^ 8 → crcOf (n * 2 ^ 8 + b) ≡ crcOf (bitXor (crcOf n) b)
 crc-byte n b h =
     congruent-unique (crc-congruent (n * 2 ^ 8 + b))
@@ -157,36 +156,3 @@ crc-byte n b h =
     (congruent-shl 8 (subst (λ (x : ℕ). Congruent x (bitXor (crcOf n) b)) (xor-shifted n 8 b h) (congruent-xor (crc-congruent n) (congruent-refl b))))
     (crc-congruent (bitXor (crcOf n) b)))
     (crc-low (n * 2 ^ 8 + b)) (crc-low (bitXor (crcOf n) b))
-
--- ---- a byte by its bits: eight bits 0 after the byte
-
-unfoldable pub zeros : ℕ → ℕ → ℕ
-zeros zero r = r
-zeros (suc k) r = bitIn (zeros k r) 0
-
-congruent-zeros : (k r : ℕ) → Congruent (r * 2 ^ k) (zeros k r)
-unfolding zeros
-congruent-zeros zero r = subst (λ (x : ℕ). Congruent x r) (sym (mul-one r)) (congruent-refl r)
-congruent-zeros (suc k) r =
-    subst (λ (x : ℕ). Congruent x (zeros (suc k) r)) (xor-zero-r (r * 2 ^ k * 2) ∙ sym (shl-suc r k)) (congruent-bitIn 0 (congruent-zeros k r))
-
-pub zeros-low : (k r : ℕ) → r < 2 ^ 8 → zeros k r < 2 ^ 8
-unfolding zeros
-zeros-low zero r h = h
-zeros-low (suc k) r h = bitIn-low (zeros k r) 0 (zeros-low k r h) (lit< tt)
-
-pub zeros-eight : (r : ℕ) → r < 2 ^ 8 → zeros 8 r ≡ crcOf r
-zeros-eight r h = congruent-unique (congruent-zeros 8 r) (crc-congruent r) (zeros-low 8 r h) (crc-low r)
-
--- the two arms of the code's step
-pub zero-bit-small : (r : ℕ) → r * 2 < 256 → r * 2 ≡ bitIn r 0
-unfolding bitIn
-zero-bit-small r h = sym (ap reduced (xor-zero-r (r * 2)) ∙ reduced-small (r * 2) h)
-
-pub zero-bit-large : (r : ℕ) → 256 ≤ r * 2 → bitXor (r * 2) generator ≡ bitIn r 0
-unfolding bitIn
-zero-bit-large r h = sym (ap reduced (xor-zero-r (r * 2)) ∙ reduced-large (r * 2) h)
-
-pub zeros-more : (k r : ℕ) → zeros (k + 1) r ≡ bitIn (zeros k r) 0
-unfolding zeros
-zeros-more k r = ap (λ (n : ℕ). zeros n r) (add-one k)

@@ -1,4 +1,7 @@
 // The 43-bit frame and its CRC (document 01, Frame).
+mod remainder_table;
+
+use remainder_table::REMAINDERS;
 ghost use mathlib.Core.Path.{_≡_};
 ghost use Rattle.frame.specs.Crc.{crcOf, ofBytes};
 ghost use Rattle.frame.specs.Frames.{crcFor, encoded, read, readingOf, crcRight};
@@ -16,23 +19,11 @@ pub enum Decoded {
     },
 }
 
-// x^8 + x^7 + x^5 + x^4 + x + 1
-const GENERATOR: u16 = 0x1b3;
-
-// The CRC of one byte. The only place where a remainder is worked out.
+// The CRC of one byte. The only place where a remainder is looked up; none is worked out in another way.
 fn byte_crc(byte: u8) -> u8
     ensures { λ r. ⌜ r ≡ crcOf byte ⌝ }
 {
-    let mut remainder = byte as u16;
-    let mut i: usize = 0;
-    while i < 8 {
-        remainder = remainder * 2;
-        if remainder >= 256 {
-            remainder = remainder ^ GENERATOR;
-        }
-        i += 1;
-    }
-    remainder as u8
+    REMAINDERS[byte as usize]
 }
 
 // The CRC of a message of any length.

@@ -1,7 +1,7 @@
 -- `register_map::entry` meets its contract: antt computes the rule's 133 values and compares the code's table with them, once, at `returns`. Assumes nothing.
 use borrow.Author.Needs.{needs}
 use Rattle.register_map.specs.AccessRule.{channelAccess, mainAccess, entryAccess}
-use Rattle.register_map.proofs.Table.{entry-of}
+use Rattle.tabulation.proofs.Entries.{entry-of}
 use Rattle.register_map.proofs.entry.Statement.{statement}
 use Rattle.register_map.proofs.entry.Tie as tie
 
