@@ -1,12 +1,14 @@
 //! The four-channel board, from documents 01, 000 and 02: its calls. Quotations are document 01's.
 
 mod command;
+mod crc;
 mod end_word;
 mod life;
 mod missing;
 mod replies;
 
 pub use self::replies::Reply;
+use self::crc::Unread;
 use self::end_word::Groups;
 use self::life::Asked;
 use self::missing::Watch;
@@ -48,14 +50,16 @@ pub struct Board {
     /// For the tally alone.
     watch: [Watch; 4],
     groups: [Groups; 4],
+    unread: [Unread; 4],
 }
 
 impl Board {
     /// "all registers 0, channels disarmed, user 1, buffers 1 active, no readbacks"
     fn blank(n: u32, m: u32) -> Board {
         let ch = [Channel::new(), Channel::new(), Channel::new(), Channel::new()];
-        let (watch, groups) = Default::default();
-        Board { n, m, user: 1, now: 0, level: 0, vector: 0, enable: 0, main: [0, 0], ch, tally: Tally::new(), watch, groups }
+        let (watch, groups, unread) = Default::default();
+        let (main, tally) = ([0, 0], Tally::new());
+        Board { n, m, user: 1, now: 0, level: 0, vector: 0, enable: 0, main, ch, tally, watch, groups, unread }
     }
 
     /// Misfit: "a depth out of range, or lent lengths other than 64 × N and 8 × M". What a
@@ -119,6 +123,7 @@ impl Board {
         self.close_window(c, Window::Closed);
         self.watch_reset(c);
         self.watch_group_reset(c);
+        self.watch_crc_reset(c);
         self.ch[c] = Channel::new();
     }
 
@@ -156,6 +161,7 @@ impl Board {
                     self.tally.add(Did::channel_status_read);
                 }
                 self.watch_status_read(c, latched);
+                self.tally_crc(c, offset, latched);
                 Ok(latched)
             }
             Place::Channel(c, 0x0C) => Ok(self.read_missing(c)),

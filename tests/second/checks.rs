@@ -1,5 +1,6 @@
-//! `selftest`: document 01's starred examples, and examples of document 02's requests 3 and 4, run on this program.
+//! `selftest`: document 01's starred examples, and examples of document 02's requests 3 to 5, run on this program.
 
+mod crc;
 mod end_word;
 mod ramp;
 
@@ -47,7 +48,7 @@ impl Small {
 type Done = Vec<(&'static str, bool)>;
 
 pub fn all() -> Done {
-    [frames(), starts(), resumes(), kept_words(), files(), end_word::all(), ramp::all()].concat()
+    [frames(), starts(), resumes(), kept_words(), files(), end_word::all(), ramp::all(), crc::all()].concat()
 }
 
 fn frames() -> Done {

@@ -7,8 +7,10 @@
 
 mod acts;
 mod commands;
+mod crc;
 mod dice;
 mod end_word;
+mod entries;
 mod files;
 mod missing;
 mod ramp;

@@ -92,16 +92,25 @@ tallies! {
 }
 
 #[derive(Clone)]
-pub struct Tally(pub Vec<u64>);
+pub struct Tally {
+    /// By `Did`.
+    pub counts: Vec<u64>,
+    /// The replies whose CRC a status told to be right, as their 32 middle bits.
+    pub crc_right: Vec<u32>,
+    /// And those whose CRC it told to be wrong.
+    pub crc_wrong: Vec<u32>,
+}
 
 impl Tally {
     pub fn new() -> Tally {
-        Tally(vec![0; DID.len()])
+        Tally { counts: vec![0; DID.len()], crc_right: Vec::new(), crc_wrong: Vec::new() }
     }
     pub fn add(&mut self, d: Did) {
-        self.0[d as usize] += 1;
+        self.counts[d as usize] += 1;
     }
     pub fn join(&mut self, other: &Tally) {
-        self.0.iter_mut().zip(&other.0).for_each(|(a, b)| *a += b);
+        self.counts.iter_mut().zip(&other.counts).for_each(|(a, b)| *a += b);
+        self.crc_right.extend(&other.crc_right);
+        self.crc_wrong.extend(&other.crc_wrong);
     }
 }

@@ -35,6 +35,7 @@ impl Board {
         }
         let wrong = crc((reply >> 10) as u32) != (reply >> 2) as u8;
         if self.is_for_command(c) {
+            self.watch_crc(c, reply);
             self.keep_for_command(c, reply, wrong);
             return Ok(Reply::Kept);
         }
@@ -46,6 +47,7 @@ impl Board {
             }
             return Ok(Reply::Unasked);
         }
+        self.watch_crc(c, reply);
         // "D24 CRC wrong, D23–D16 ID, D15–D0 data"
         let answer = self.store(c, (wrong as u32) << 24 | (reply >> 18) as u32 & 0x00FF_FFFF, readbacks);
         // "A wrong CRC, kept or lost, latches CRC."

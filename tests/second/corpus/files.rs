@@ -1,5 +1,6 @@
 //! The files of a corpus: run files, whole or damaged, and call scripts.
 
+use super::crc::every_entry;
 use super::dice::Dice;
 use super::ramp::ramp_script;
 use super::story::{story, BASE, DEPTHS_M, DEPTHS_N};
@@ -164,6 +165,9 @@ pub fn generate(dir: &Path, seed: u64, count: u32) -> std::io::Result<()> {
     fs::create_dir_all(dir)?;
     fs::write(dir.join("delay.run"), long_delay())?;
     fs::write(dir.join("count.run"), high_count())?;
+    fs::write(dir.join("crc.run"), file(&Dice::new(0), &every_entry(World::run()), None))?;
+    let header = [1, 64, 0, 0].map(u32::to_le_bytes).concat();
+    fs::write(dir.join("crc.calls"), every_entry(World::script(header, 0)))?;
     for quarter in 0..4 {
         fs::write(dir.join(format!("map-{quarter}.run")), whole_map(quarter))?;
     }

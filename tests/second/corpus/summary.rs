@@ -1,5 +1,6 @@
 //! What this program says to the files of a corpus, and what they reach.
 
+use super::entries::Entries;
 use crate::answer::Answer;
 use crate::tally::{Tally, DID};
 use crate::{runfile, script};
@@ -43,11 +44,14 @@ struct Reach {
     /// By number.
     refused: [u64; 12],
     did: Tally,
+    /// Of the list of remainders, by frames without auxiliary bits and with them.
+    entries: [Entries; 2],
 }
 
 impl Reach {
     fn new() -> Reach {
-        Reach { files: 0, answers: 0, frames: 0, sending: 0, refused: [0; 12], did: Tally::new() }
+        let entries = [Entries::new(), Entries::new()];
+        Reach { files: 0, answers: 0, frames: 0, sending: 0, refused: [0; 12], did: Tally::new(), entries }
     }
     fn add(&mut self, answers: &[Answer], did: Option<&Tally>) {
         self.files += 1;
@@ -56,7 +60,10 @@ impl Reach {
         for a in answers {
             match a {
                 Answer::Refused(n) => self.refused[*n as usize] += 1,
-                Answer::Ticks(sent) => self.frames += sent.len() as u64,
+                Answer::Ticks(sent) => {
+                    self.frames += sent.len() as u64;
+                    sent.iter().for_each(|&(_, _, frame)| self.look_up((frame >> 10) as u32));
+                }
                 _ => {}
             }
         }
@@ -64,6 +71,11 @@ impl Reach {
         if let Some(did) = did {
             self.did.join(did);
         }
+    }
+    /// A frame of these 32 middle bits.
+    fn look_up(&mut self, middle: u32) {
+        let has_auxiliary = middle & 0xFF != 0;
+        self.entries[has_auxiliary as usize].look_up(middle);
     }
 }
 
@@ -93,12 +105,34 @@ const OF_SCRIPTS: [&str; 11] = [
 /// the end word) is asked of both kinds of files, which different programs read; ramps are of scripts alone.
 fn done(runs: &Reach, calls: &Reach) -> Vec<String> {
     let mut missing = Vec::new();
-    for ((name, in_runs), in_calls) in DID.iter().zip(&runs.did.0).zip(&calls.did.0) {
+    for ((name, in_runs), in_calls) in DID.iter().zip(&runs.did.counts).zip(&calls.did.counts) {
         let is_of_a_request = ["command", "missing", "end_word"].iter().any(|request| name.starts_with(request));
         let is_asked_of_both = is_of_a_request && !OF_SCRIPTS.contains(name);
         println!("{name} {in_runs} in run files, {in_calls} in scripts");
         if in_runs + in_calls == 0 || (is_asked_of_both && in_runs * in_calls == 0) {
             missing.push(name.to_string());
+        }
+    }
+    missing
+}
+
+/// Prints how many entries of the list of remainders are looked up at each byte, and answers where it is not all of them.
+fn remainders(runs: &Reach, calls: &Reach) -> Vec<String> {
+    let mut missing = Vec::new();
+    let of_replies = |replies: &[u32]| {
+        let mut entries = Entries::new();
+        replies.iter().for_each(|&middle| entries.look_up(middle));
+        entries.reached()
+    };
+    for (name, in_runs, in_calls) in [
+        ("frames without auxiliary bits", runs.entries[0].reached(), calls.entries[0].reached()),
+        ("frames with auxiliary bits", runs.entries[1].reached(), calls.entries[1].reached()),
+        ("replies told right", of_replies(&runs.did.crc_right), of_replies(&calls.did.crc_right)),
+        ("replies told wrong", of_replies(&runs.did.crc_wrong), of_replies(&calls.did.crc_wrong)),
+    ] {
+        println!("remainders of {name}: {in_runs:?} in run files, {in_calls:?} in scripts");
+        if [in_runs, in_calls] != [[256; 4]; 2] {
+            missing.push(format!("remainders of {name}"));
         }
     }
     missing
@@ -124,6 +158,7 @@ pub fn summary(dir: &Path) -> std::io::Result<bool> {
     println!("{} run files, {} call scripts, {answers} answers, {frames} frames in {sending} of the files", runs.files, calls.files);
     let mut missing = refusals(&runs, &calls);
     missing.extend(done(&runs, &calls));
+    missing.extend(remainders(&runs, &calls));
     if !missing.is_empty() {
         println!("not reached: {}", missing.join(", "));
     }
