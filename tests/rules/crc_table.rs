@@ -79,6 +79,10 @@ pub fn wrong() -> Vec<String> {
     if tables.len() < 2 {
         bad.push(format!("{PAGE}: no example"));
     }
+    let read: usize = tables.iter().map(|k| parts[*k].lines().count()).sum();
+    if read != text.lines().filter(|l| l.contains('|')).count() {
+        bad.push(format!("{PAGE}: a table is not read: one empty line before it, and a bar at the start of each row"));
+    }
     let near = |k: usize| parts.get(k).copied().unwrap_or("");
     let is_wrong = |k: &&usize| !is_right(parts[**k], near(**k - 1), near(**k + 1), &list);
     bad.extend(tables[1..].iter().filter(is_wrong).map(|k| format!("{PAGE}: an example is wrong: {}", near(k - 1))));

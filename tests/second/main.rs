@@ -3,7 +3,8 @@
 //!
 //!   second run | trace | calls     reads standard input to its end, prints what the product's
 //!                                  program of that name prints
-//!   second gen DIR SEED COUNT      writes COUNT run files, COUNT call scripts, and a script of ramps for every tenth
+//!   second gen DIR SEED COUNT      writes COUNT run files, COUNT call scripts, a script of ramps for every tenth, and
+//!                                  some that are the same for any seed
 //!   second answers DIR             writes this program's answers beside those files
 //!   second summary DIR             what the files of DIR reach
 //!   second selftest                document 01's starred examples, and examples of requests 3 to 5

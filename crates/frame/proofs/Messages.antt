@@ -80,13 +80,13 @@ pub crc-all : (s : List ℕ) (i : ℕ) → length s ≤ i → crcOf (ofBytes (ta
 crc-all s i h = ap (λ (l : List ℕ). crcOf (ofBytes l)) (take-all i s h)
 
 -- bytes brought in one after the other, from the remainder r: each leaves the CRC of remainder and byte together
-abbrev pub stepped : ℕ → List ℕ → ℕ
-stepped r [] = r
-stepped r (b ∷ bs) = stepped (crcOf (bitXor r b)) bs
+abbrev pub updated : ℕ → List ℕ → ℕ
+updated r [] = r
+updated r (b ∷ bs) = updated (crcOf (bitXor r b)) bs
 
-pub byte-steps : (m : ℕ) (bytes : List ℕ) → ((k : ℕ) → getD bytes k 0 < 2 ^ 8) → stepped (crcOf m) bytes ≡ crcOf (withBytes m bytes)
-byte-steps m [] h = refl
-byte-steps m (b ∷ bs) h = ap (λ (r : ℕ). stepped r bs) (sym (crc-byte m b (h 0))) ∙ byte-steps (m * 2 ^ 8 + b) bs (λ k. h (suc k))
+pub updated-is : (m : ℕ) (bytes : List ℕ) → ((k : ℕ) → getD bytes k 0 < 2 ^ 8) → updated (crcOf m) bytes ≡ crcOf (withBytes m bytes)
+updated-is m [] h = refl
+updated-is m (b ∷ bs) h = ap (λ (r : ℕ). updated r bs) (sym (crc-byte m b (h 0))) ∙ updated-is (m * 2 ^ 8 + b) bs (λ k. h (suc k))
 
 -- ---- the middle bits of a frame
 
@@ -101,10 +101,10 @@ middle-fits id word aux hi hw ha (suc (suc zero)) = mod-lt word (lit< tt)
 middle-fits id word aux hi hw ha (suc (suc (suc zero))) = ha
 middle-fits id word aux hi hw ha (suc (suc (suc (suc k)))) = lit< tt
 
--- four steps are the CRC of the middle bits
-pub crc-middle : (id word aux : ℕ) → id < 2 ^ 8 → word < 2 ^ 16 → aux < 2 ^ 8 → stepped 0 (middleBytes id word aux) ≡ crcFor id word aux
+-- four updates are the CRC of the middle bits
+pub crc-middle : (id word aux : ℕ) → id < 2 ^ 8 → word < 2 ^ 16 → aux < 2 ^ 8 → updated 0 (middleBytes id word aux) ≡ crcFor id word aux
 unfolding crcOf crcFor
-crc-middle id word aux hi hw ha = byte-steps 0 (middleBytes id word aux) (middle-fits id word aux hi hw ha) ∙ ap crcOf message
+crc-middle id word aux hi hw ha = updated-is 0 (middleBytes id word aux) (middle-fits id word aux hi hw ha) ∙ ap crcOf message
   where
     message : ofBytes (middleBytes id word aux) ≡ middle id word aux
     message = omega arith

@@ -12,7 +12,7 @@ use Rattle.frame.specs.Crc.{crcOf, ofBytes}
 use Rattle.frame.specs.Frames.{crcFor}
 use Rattle.frame.specs.Table.{remainders, bytesIn, TableLaws}
 use Rattle.frame.proofs.Remainders.{remainder-unique, crc-low, crc-is}
-use Rattle.frame.proofs.Messages.{stepped, byte-steps, middleBytes, middle-fits, crc-middle}
+use Rattle.frame.proofs.Messages.{updated, updated-is, middleBytes, middle-fits, crc-middle}
 
 -- ---- the list
 
@@ -20,24 +20,24 @@ pub entry : (b : ℕ) → b < 2 ^ 8 → getD remainders b 0 ≡ crcOf b
 unfolding remainders
 entry b h = entry-of crcOf 256 b 0 h
 
-one-each : length remainders ≡ 256
+length-256 : length remainders ≡ 256
 unfolding remainders
-one-each = length-of crcOf 256
+length-256 = length-of crcOf 256
 
 entry-remainder : (b : ℕ) → b < 2 ^ 8 → Remainder (b * 2 ^ 8) (getD remainders b 0)
 entry-remainder b h = subst (Remainder (b * 2 ^ 8)) (sym (entry b h)) (crc-is b)
 
 list-unique : (list : List ℕ) → length list ≡ 256 → ((b : ℕ) → b < 2 ^ 8 → Remainder (b * 2 ^ 8) (getD list b 0)) → list ≡ remainders
 list-unique list n rule =
-    ext-getD 0 list remainders (n ∙ sym one-each)
+    ext-getD 0 list remainders (n ∙ sym length-256)
     (λ b l.
     let h : b < 2 ^ 8 = subst (λ (m : ℕ). b < m) n l in
     remainder-unique (b * 2 ^ 8) (getD list b 0) (getD remainders b 0) (rule b h) (entry-remainder b h))
 
 -- ---- look-ups
 
--- a look-up is a step
-looked-up : (r : ℕ) (bytes : List ℕ) → r < 2 ^ 8 → ((k : ℕ) → getD bytes k 0 < 2 ^ 8) → bytesIn r bytes ≡ stepped r bytes
+-- a look-up is an update
+looked-up : (r : ℕ) (bytes : List ℕ) → r < 2 ^ 8 → ((k : ℕ) → getD bytes k 0 < 2 ^ 8) → bytesIn r bytes ≡ updated r bytes
 unfolding bytesIn
 looked-up r [] low h = refl
 looked-up r (b ∷ bs) low h =
@@ -46,7 +46,7 @@ looked-up r (b ∷ bs) low h =
 
 byte-by-byte : (bytes : List ℕ) → ((k : ℕ) → getD bytes k 0 < 2 ^ 8) → bytesIn 0 bytes ≡ crcOf (ofBytes bytes)
 unfolding crcOf
-byte-by-byte bytes h = looked-up 0 bytes (lit< tt) h ∙ byte-steps 0 bytes h
+byte-by-byte bytes h = looked-up 0 bytes (lit< tt) h ∙ updated-is 0 bytes h
 
 frame-bytes : (id word aux : ℕ) → id < 2 ^ 8 → word < 2 ^ 16 → aux < 2 ^ 8
     → bytesIn 0 (id ∷ word / 2 ^ 8 ∷ word % 2 ^ 8 ∷ aux ∷ []) ≡ crcFor id word aux
@@ -56,7 +56,7 @@ frame-bytes id word aux hi hw ha =
 pub table-laws : TableLaws
 table-laws =
     record {
-      one-each = one-each;
+      length-256 = length-256;
       entry-remainder = entry-remainder;
       list-unique = list-unique;
       byte-by-byte = byte-by-byte;

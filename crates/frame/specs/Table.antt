@@ -24,12 +24,12 @@ bytesIn r (b ∷ bs) = bytesIn (getD remainders (bitXor r b) 0) bs
 -- "Show this over the whole list."
 pub record TableLaws : Type 0 where
   -- there are 256, and that of byte b is the remainder of b "times x^8, by document 01's polynomial"
-  pub one-each : length remainders ≡ 256
+  pub length-256 : length remainders ≡ 256
   pub entry-remainder : (b : ℕ) → b < 2 ^ 8 → Remainder (b * 2 ^ 8) (getD remainders b 0)
   -- no other list of 256 is so
   pub list-unique : (list : List ℕ) → length list ≡ 256 → ((b : ℕ) → b < 2 ^ 8 → Remainder (b * 2 ^ 8) (getD list b 0)) → list ≡ remainders
   -- look-ups, starting from 0, give the CRC of a message of any length
   pub byte-by-byte : (bytes : List ℕ) → ((k : ℕ) → getD bytes k 0 < 2 ^ 8) → bytesIn 0 bytes ≡ crcOf (ofBytes bytes)
-  -- four of them give that of a frame: ID, the data's high byte, its low byte, auxiliary
+  -- four look-ups give the CRC of a frame: ID, the data's high byte, its low byte, auxiliary
   pub frame-bytes : (id word aux : ℕ) → id < 2 ^ 8 → word < 2 ^ 16 → aux < 2 ^ 8
       → bytesIn 0 (id ∷ word / 2 ^ 8 ∷ word % 2 ^ 8 ∷ aux ∷ []) ≡ crcFor id word aux

@@ -18,5 +18,6 @@ module _ {A : Type 0} (rule : ℕ → A) where
   entry-from i (suc n) zero d h = ap rule (rw add-zero)
   entry-from i (suc n) (suc k) d h = entry-from (suc i) n k d (le-of-suc-le-suc h) ∙ ap rule (rw (suc-add, add-suc))
 
+  -- so too where a table computes to this list
   pub entry-of : (n k : ℕ) (d : A) → k < n → getD (tabulated rule n) k d ≡ rule k
   entry-of n k d h = entry-from 0 n k d h ∙ ap rule (zero-add k)

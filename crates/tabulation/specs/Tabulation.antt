@@ -3,11 +3,11 @@ use mathlib.Core.List.{List, [], _∷_}
 use Prim.Native.Nat.{ℕ, zero, suc}
 
 module _ {A : Type 0} (rule : ℕ → A) where
-  -- from i on, n of them
+  -- its values from i on, n of them
   abbrev pub tabulatedFrom : ℕ → ℕ → List A
   tabulatedFrom i zero = []
   tabulatedFrom i (suc n) = rule i ∷ tabulatedFrom (suc i) n
 
-  -- at 0 to n - 1
+  -- its values at 0 to n - 1
   abbrev pub tabulated : ℕ → List A
   tabulated n = tabulatedFrom 0 n

@@ -23,11 +23,6 @@ fn long_division(middle: u32) -> u8 {
     rest as u8
 }
 
-/// The CRC that the list gives to these bytes in this order.
-fn from_list(bytes: [u8; 4]) -> u8 {
-    bytes.iter().fold(0, |rest, byte| REMAINDERS[(rest ^ byte) as usize])
-}
-
 pub fn all() -> Done {
     [list(), messages(), orders(), sent(), replied()].concat()
 }
@@ -75,8 +70,8 @@ fn messages() -> Done {
 /// entry 91h is 91h, as entry 0 is 0, and no other is its byte. So bytes that differ by 91h can change places.
 fn orders() -> Done {
     let same = (0..=255).filter(|b| REMAINDERS[*b as usize] == *b);
-    let first = (0..=255).filter(|b| crc((*b as u32) << 24) == from_list([0, 0, 0, *b]));
-    let data = (0..=255).filter(|b| crc(0x1500_0000 | (*b as u32) << 16) == from_list([0x15, 0, *b, 0]));
+    let first = (0..=255).filter(|b| crc(u32::from_be_bytes([*b, 0, 0, 0])) == crc(u32::from_be_bytes([0, 0, 0, *b])));
+    let data = (0..=255).filter(|b| crc(u32::from_be_bytes([0x15, *b, 0, 0])) == crc(u32::from_be_bytes([0x15, 0, *b, 0])));
     vec![
         ("the entries that are their bytes", same.eq([0, 0x91])),
         ("low byte first is another CRC", first.eq([0, 0x91])),
@@ -101,7 +96,7 @@ fn sent() -> Done {
 fn replied() -> Done {
     let middle = 0x1512_34A5;
     // D24 of the readback, D2 of the status
-    let is_wrong = |carried: u8| {
+    let told = |carried: u8| {
         let mut t = Small::new(&[0x8000_1234]);
         t.write(0x808, 1);
         t.sends(1, 10);
@@ -110,8 +105,8 @@ fn replied() -> Done {
         is_kept.then_some((t.r[0] >> 24 & 1 == 1, t.b.read(0x802).unwrap() & 4 != 0))
     };
     let judged = |carried: u8| {
-        let is_wrong_now = carried != long_division(middle);
-        is_wrong(carried) == Some((is_wrong_now, is_wrong_now))
+        let is_wrong = carried != long_division(middle);
+        told(carried) == Some((is_wrong, is_wrong))
     };
     vec![("replies with each CRC", (0..=255).all(judged))]
 }
