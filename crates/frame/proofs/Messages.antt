@@ -84,27 +84,26 @@ abbrev pub updated : ℕ → List ℕ → ℕ
 updated r [] = r
 updated r (b ∷ bs) = updated (crcOf (bitXor r b)) bs
 
-pub updated-is : (m : ℕ) (bytes : List ℕ) → ((k : ℕ) → getD bytes k 0 < 2 ^ 8) → updated (crcOf m) bytes ≡ crcOf (withBytes m bytes)
-updated-is m [] h = refl
-updated-is m (b ∷ bs) h = ap (λ (r : ℕ). updated r bs) (sym (crc-byte m b (h 0))) ∙ updated-is (m * 2 ^ 8 + b) bs (λ k. h (suc k))
+pub updated-crc : (m : ℕ) (bytes : List ℕ) → ((k : ℕ) → getD bytes k 0 < 2 ^ 8) → updated (crcOf m) bytes ≡ crcOf (withBytes m bytes)
+updated-crc m [] h = refl
+updated-crc m (b ∷ bs) h = ap (λ (r : ℕ). updated r bs) (sym (crc-byte m b (h 0))) ∙ updated-crc (m * 2 ^ 8 + b) bs (λ k. h (suc k))
 
 -- ---- the middle bits of a frame
 
--- their bytes, high byte first
-abbrev pub middleBytes : ℕ → ℕ → ℕ → List ℕ
-middleBytes id word aux = id ∷ word / 2 ^ 8 ∷ word % 2 ^ 8 ∷ aux ∷ []
+-- their bytes after the ID, high byte first
+abbrev pub afterId : ℕ → ℕ → List ℕ
+afterId word aux = word / 2 ^ 8 ∷ word % 2 ^ 8 ∷ aux ∷ []
 
-pub middle-fits : (id word aux : ℕ) → id < 2 ^ 8 → word < 2 ^ 16 → aux < 2 ^ 8 → (k : ℕ) → getD (middleBytes id word aux) k 0 < 2 ^ 8
-middle-fits id word aux hi hw ha zero = hi
-middle-fits id word aux hi hw ha (suc zero) = omega arith
-middle-fits id word aux hi hw ha (suc (suc zero)) = mod-lt word (lit< tt)
-middle-fits id word aux hi hw ha (suc (suc (suc zero))) = ha
-middle-fits id word aux hi hw ha (suc (suc (suc (suc k)))) = lit< tt
+pub after-id-fits : (word aux : ℕ) → word < 2 ^ 16 → aux < 2 ^ 8 → (k : ℕ) → getD (afterId word aux) k 0 < 2 ^ 8
+after-id-fits word aux hw ha zero = omega arith
+after-id-fits word aux hw ha (suc zero) = mod-lt word (lit< tt)
+after-id-fits word aux hw ha (suc (suc zero)) = ha
+after-id-fits word aux hw ha (suc (suc (suc k))) = lit< tt
 
--- four updates are the CRC of the middle bits
-pub crc-middle : (id word aux : ℕ) → id < 2 ^ 8 → word < 2 ^ 16 → aux < 2 ^ 8 → updated 0 (middleBytes id word aux) ≡ crcFor id word aux
-unfolding crcOf crcFor
-crc-middle id word aux hi hw ha = updated-is 0 (middleBytes id word aux) (middle-fits id word aux hi hw ha) ∙ ap crcOf message
+-- the CRC of the ID, updated with these, is that of the middle bits
+pub crc-middle : (id word aux : ℕ) → word < 2 ^ 16 → aux < 2 ^ 8 → updated (crcOf id) (afterId word aux) ≡ crcFor id word aux
+unfolding crcFor
+crc-middle id word aux hw ha = updated-crc id (afterId word aux) (after-id-fits word aux hw ha) ∙ ap crcOf message
   where
-    message : ofBytes (middleBytes id word aux) ≡ middle id word aux
+    message : withBytes id (afterId word aux) ≡ middle id word aux
     message = omega arith

@@ -1,7 +1,7 @@
 -- The list of remainders by bytes, and the CRC by look-ups in it: every law of specs/Table.antt. Assumes nothing.
 use mathlib.Core.Path.{_≡_, refl, sym, ap, _∙_, subst}
 use mathlib.Core.List.{List, [], _∷_}
-use Prim.Native.Nat.{ℕ, suc, _*_, _/_, _%_, _^_, _<_}
+use Prim.Native.Nat.{ℕ, zero, suc, _*_, _/_, _%_, _^_, _<_}
 use lib.Dec.{lit<}
 use lib.Bits.{bitXor, xor-lt}
 use lib.ListN.{length, getD}
@@ -12,10 +12,11 @@ use Rattle.frame.specs.Crc.{crcOf, ofBytes}
 use Rattle.frame.specs.Frames.{crcFor}
 use Rattle.frame.specs.Table.{remainders, bytesIn, TableLaws}
 use Rattle.frame.proofs.Remainders.{remainder-unique, crc-low, crc-is}
-use Rattle.frame.proofs.Messages.{updated, updated-is, middleBytes, middle-fits, crc-middle}
+use Rattle.frame.proofs.Messages.{updated, updated-crc, afterId, after-id-fits, crc-middle}
 
 -- ---- the list
 
+-- entry b is the CRC of b
 pub entry : (b : ℕ) → b < 2 ^ 8 → getD remainders b 0 ≡ crcOf b
 unfolding remainders
 entry b h = entry-of crcOf 256 b 0 h
@@ -46,12 +47,15 @@ looked-up r (b ∷ bs) low h =
 
 byte-by-byte : (bytes : List ℕ) → ((k : ℕ) → getD bytes k 0 < 2 ^ 8) → bytesIn 0 bytes ≡ crcOf (ofBytes bytes)
 unfolding crcOf
-byte-by-byte bytes h = looked-up 0 bytes (lit< tt) h ∙ updated-is 0 bytes h
+byte-by-byte bytes h = looked-up 0 bytes (lit< tt) h ∙ updated-crc 0 bytes h
 
 frame-bytes : (id word aux : ℕ) → id < 2 ^ 8 → word < 2 ^ 16 → aux < 2 ^ 8
     → bytesIn 0 (id ∷ word / 2 ^ 8 ∷ word % 2 ^ 8 ∷ aux ∷ []) ≡ crcFor id word aux
-frame-bytes id word aux hi hw ha =
-    looked-up 0 (middleBytes id word aux) (lit< tt) (middle-fits id word aux hi hw ha) ∙ crc-middle id word aux hi hw ha
+frame-bytes id word aux hi hw ha = looked-up 0 (id ∷ afterId word aux) (lit< tt) each ∙ crc-middle id word aux hw ha
+  where
+    each : (k : ℕ) → getD (id ∷ afterId word aux) k 0 < 2 ^ 8
+    each zero = hi
+    each (suc k) = after-id-fits word aux hw ha k
 
 pub table-laws : TableLaws
 table-laws =

@@ -10,7 +10,7 @@ use Rattle.frame.specs.Polynomials.{Remainder}
 use Rattle.frame.specs.Crc.{crcOf, ofBytes}
 use Rattle.frame.specs.Frames.{crcFor}
 
--- "256 remainders, one for each byte value": the CRC of each byte by itself, from 00h to FFh
+-- "the printed list of 256 remainders, one for each byte value: that of the byte times x^8": the CRC of each byte by itself, from 00h to FFh
 unfoldable pub remainders : List ℕ
 unfolding crcOf
 remainders = tabulated crcOf 256

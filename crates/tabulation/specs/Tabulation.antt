@@ -1,4 +1,5 @@
--- A rule's values in a list: what a constant table of the code is compared with.
+-- Document 01, 'Code places and language forms': a table "whose rule is computed once over all entries". The rule's values in a list, with which a constant
+-- table of the code is compared.
 use mathlib.Core.List.{List, [], _∷_}
 use Prim.Native.Nat.{ℕ, zero, suc}
 

@@ -36,7 +36,7 @@ returns c =
     ∙ ap (λ (x : ℕ). crcOf (bitXor x (a .«data» % 256)))
     (c .before .before .byte-crc2 .ensures
     ∙ ap (λ (x : ℕ). crcOf (bitXor x (a .«data» / 256))) (c .before .before .before .byte-crc .ensures)))
-    ∙ crc-middle (a .id) (a .«data») (a .auxiliary) (s .fits .id .fits) (s .fits .«data» .fits) (s .fits .auxiliary .fits)
+    ∙ crc-middle (a .id) (a .«data») (a .auxiliary) (s .fits .«data» .fits) (s .fits .auxiliary .fits)
 
 pub frame-crc-spec : {M : Type 1} → statement M
 frame-crc-spec =
