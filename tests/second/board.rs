@@ -5,33 +5,20 @@ mod crc;
 mod end_word;
 mod life;
 mod missing;
+mod peek;
 mod replies;
+mod tag;
 
+pub use self::peek::Peek;
 pub use self::replies::Reply;
 use self::crc::Unread;
 use self::end_word::Groups;
 use self::life::Asked;
 use self::missing::Watch;
-use crate::channel::{Channel, Hold, Window, ACTIVE, CLOCK, END, START, SWITCH};
+use self::tag::{Dropped, Tags};
+use crate::channel::{Channel, Window, CLOCK, SWITCH, TAG};
 use crate::map::{place, rule, Place};
 use crate::tally::{Did, Tally};
-
-/// A channel as the corpus generator sees it.
-pub struct Peek {
-    pub armed: bool,
-    pub idle: bool,
-    /// Ticks to the function's next send.
-    pub wait: u64,
-    /// The pause (1–5) it is in, 0 for none.
-    pub pause: u32,
-    pub replies: Option<u32>,
-    pub stored: usize,
-    pub active: u16,
-    /// A command frame leaves on the next tick.
-    pub command_is_due: bool,
-    /// A command frame waits for Group End.
-    pub command_awaits_group_end: bool,
-}
 
 #[derive(Clone)]
 pub struct Board {
@@ -51,15 +38,16 @@ pub struct Board {
     watch: [Watch; 4],
     groups: [Groups; 4],
     unread: [Unread; 4],
+    tags: [Tags; 4],
 }
 
 impl Board {
     /// "all registers 0, channels disarmed, user 1, buffers 1 active, no readbacks"
     fn blank(n: u32, m: u32) -> Board {
         let ch = [Channel::new(), Channel::new(), Channel::new(), Channel::new()];
-        let (watch, groups, unread) = Default::default();
+        let (watch, groups, unread, tags) = Default::default();
         let (main, tally) = ([0, 0], Tally::new());
-        Board { n, m, user: 1, now: 0, level: 0, vector: 0, enable: 0, main, ch, tally, watch, groups, unread }
+        Board { n, m, user: 1, now: 0, level: 0, vector: 0, enable: 0, main, ch, tally, watch, groups, unread, tags }
     }
 
     /// Misfit: "a depth out of range, or lent lengths other than 64 × N and 8 × M". What a
@@ -91,7 +79,7 @@ impl Board {
 
     /// Refusals 1, 3, 4, 10, 5.
     pub fn write(&mut self, address: u32, value: u16, readbacks: &mut [u32]) -> Result<(), u8> {
-        self.readbacks_fit(readbacks).inspect_err(|_| self.tally.add(Did::write_refused_1))?;
+        self.readbacks_fit(readbacks).inspect_err(|_| self.tally_write_refused(address, value))?;
         let (c, offset) = match place(address, true).inspect_err(|&n| self.tally_missing_written(address, n))? {
             Place::Main(0x22) => return Ok(self.level = value & 7),
             Place::Main(0x24) => return Ok(self.vector = value),
@@ -100,14 +88,11 @@ impl Board {
         };
         match offset {
             0x06 if value & 1 == 1 => self.reset(c),
-            0x06 => self.tally.add(Did::reset_without_d0),
-            // "Start (its event, or Commands D0)", "Commands D1 (VME pause only)", "Group End
-            // (event, or Commands D2)"
-            0x08 => {
-                let resume = [false, false, false, false, false, value & 2 != 0];
-                let asked = Asked { group_end: value & 4 != 0, start: value & 1 != 0, resume, by_command: true };
-                self.act(c, asked, readbacks);
+            0x06 => {
+                self.tally.add(Did::reset_without_d0);
+                self.watch_tag_kept(c, Did::tag_kept_over_reset_without_d0);
             }
+            0x08 => self.act(c, Asked::by_command(value), readbacks),
             0xFC => return self.ask_command(c, value),
             // "A code is the whole word written"
             0x0A if value > 3 => return Err(5),
@@ -121,6 +106,7 @@ impl Board {
         self.tally.add(if self.ch[c].function.is_some() { Did::reset_not_idle } else { Did::reset_idle });
         self.drop_command(c, Did::command_dropped_by_reset);
         self.close_window(c, Window::Closed);
+        self.drop_tag(c, Dropped::Reset);
         self.watch_reset(c);
         self.watch_group_reset(c);
         self.watch_crc_reset(c);
@@ -136,6 +122,9 @@ impl Board {
         }
         if (SWITCH..SWITCH + 8).contains(&at) && kept == 0 && self.ch[c].w[at] == 1 {
             self.tally.add(Did::switch_withdrawn);
+        }
+        if at == TAG {
+            self.watch_tag_register(c, value);
         }
         self.ch[c].w[at] = kept;
     }
@@ -167,6 +156,7 @@ impl Board {
             Place::Channel(c, 0x0C) => Ok(self.read_missing(c)),
             Place::Channel(c, offset) => {
                 self.tally_command_read(c, offset as usize / 2);
+                self.tally_tag_register(c, offset as usize / 2);
                 Ok(self.ch[c].w[offset as usize / 2])
             }
         }
@@ -200,6 +190,7 @@ impl Board {
         let c = Board::channel(c)?;
         if self.ch[c].armed {
             self.tally.add(Did::arm_armed);
+            self.watch_tag_kept(c, Did::tag_kept_over_arm);
         }
         self.ch[c].armed = true;
         Ok(())
@@ -211,6 +202,7 @@ impl Board {
         self.tally.add(if self.ch[c].function.is_some() { Did::disarm_not_idle } else { Did::disarm_idle });
         let is_armed = self.ch[c].armed;
         self.drop_command(c, if is_armed { Did::command_dropped_by_disarm } else { Did::command_dropped_by_disarm_of_disarmed });
+        self.drop_tag(c, Dropped::Disarm);
         self.watch_idling(c, Did::missing_idled_by_disarm, Did::missing_kept_over_disarm);
         self.ch[c].function = None;
         self.ch[c].armed = false;
@@ -239,17 +231,16 @@ impl Board {
 
     /// Refusal 1. "Event registers keep 9 bits: D8 active, D7–D0 code."
     pub fn event(&mut self, code: u8, readbacks: &mut [u32]) -> Result<(), u8> {
-        self.readbacks_fit(readbacks).inspect_err(|_| self.tally.add(Did::event_refused_1))?;
+        self.readbacks_fit(readbacks).inspect_err(|_| self.tally_event_refused(code))?;
         self.tally.add(Did::event_came);
         // "D3 an event came"
         self.main[0] |= 8;
         self.main[1] |= 8;
         for c in 0..4 {
-            let w = self.ch[c].w;
-            let is = |at: usize| w[at] == 0x100 | code as u16;
-            let resume = [false, is(START + 1), is(START + 2), is(START + 3), is(START + 4), false];
-            self.act(c, Asked { group_end: is(END), start: is(START), resume, by_command: false }, readbacks);
+            let asked = Asked::by_event(code, &self.ch[c]);
+            self.act(c, asked, readbacks);
         }
+        self.watch_tag_event(code);
         Ok(())
     }
 
@@ -260,12 +251,14 @@ impl Board {
         }
         if user == self.user {
             self.tally.add(Did::user_same);
+            (0..4).for_each(|c| self.watch_tag_kept(c, Did::tag_kept_over_same_user));
             return Ok(());
         }
         self.tally.add(Did::user_changed);
         self.user = user;
         for c in 0..4 {
             self.watch_idling(c, Did::missing_idled_by_user_change, Did::missing_kept_over_user_change);
+            self.watch_tag_kept(c, Did::tag_kept_over_user_change);
             self.end_function(c, Did::ee_by_user_change);
             if self.is_for_command(c) {
                 self.tally.add(Did::command_window_open_at_user_change);
@@ -283,28 +276,5 @@ impl Board {
             self.tally.add(Did::level_zero_while_latched);
         }
         if raised { self.level } else { 0 }
-    }
-
-    pub fn peek(&self, c: usize) -> Peek {
-        let ch = &self.ch[c];
-        let f = ch.function.as_ref();
-        let next = f.map_or(0, |f| match f.resume {
-            Some(at) if f.due + 10 > at => at,
-            _ => f.due,
-        });
-        Peek {
-            armed: ch.armed,
-            idle: f.is_none(),
-            wait: next.saturating_sub(self.now),
-            pause: match f.and_then(|f| f.held) {
-                Some((_, Hold::Pause(k))) => k,
-                _ => 0,
-            },
-            replies: f.and_then(|f| f.sent).map(|s| s.replies),
-            stored: ch.stored[ch.active_readback()],
-            active: ch.w[ACTIVE],
-            command_is_due: ch.waiting.is_some_and(|w| w.due.is_some()),
-            command_awaits_group_end: ch.waiting.is_some_and(|w| w.due.is_none()),
-        }
     }
 }

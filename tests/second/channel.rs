@@ -40,7 +40,9 @@ pub fn status_of(h: Hold) -> u16 {
 #[derive(Clone, Copy)]
 pub struct Sent {
     /// D31–D26 of its readbacks.
-    pub tag: u32,
+    pub flags: u32,
+    /// It used a tag (document 02, request 6).
+    pub is_tagged: bool,
     /// The Frame ID that it carried.
     pub id: u8,
     /// The replies after it, kept or lost, at most six.
@@ -102,6 +104,8 @@ pub struct Channel {
     pub stored: [usize; 2],
     pub waiting: Option<Waiting>,
     pub window: Window,
+    /// A tag that is not yet used (document 02, request 6).
+    pub is_tag_pending: bool,
     /// Command frames since the setpoint count was cleared (for the tally alone).
     pub commands: u32,
 }
@@ -115,6 +119,7 @@ pub const COUNT: usize = 0x10 / 2;
 pub const ID: usize = 0x14 / 2;
 pub const START: usize = 0x20 / 2;
 pub const END: usize = 0x2A / 2;
+pub const TAG: usize = 0x2C / 2;
 pub const SWITCH: usize = 0x30 / 2;
 pub const DELAYS: usize = 0x40 / 2;
 pub const COMMAND: usize = 0xE0 / 2;
@@ -131,6 +136,7 @@ impl Channel {
             stored: [0, 0],
             waiting: None,
             window: Window::Closed,
+            is_tag_pending: false,
             commands: 0,
         }
     }

@@ -1,8 +1,9 @@
-//! `selftest`: document 01's starred examples, and examples of document 02's requests 3 to 5, run on this program.
+//! `selftest`: document 01's starred examples, and examples of document 02's requests 3 to 6, run on this program.
 
 mod crc;
 mod end_word;
 mod ramp;
+mod tag;
 
 use crate::board::{Board, Reply};
 use crate::frame::{crc, frame};
@@ -43,12 +44,26 @@ impl Small {
         }
         seen
     }
+    /// A reply of ID 15h.
+    fn reply(&mut self, data: usize) -> Reply {
+        self.b.reply(1, frame(0x15, data as u16, 0), &mut self.r).unwrap()
+    }
+    fn group_end(&mut self) {
+        self.write(0x808, 4);
+    }
+    /// Channel 1's retired part.
+    fn part(&mut self) -> Vec<u32> {
+        let m = self.b.m as usize;
+        let (first, second) = (&self.r[..m], &self.r[m..2 * m]);
+        let (is_second, length) = self.b.retired(1, first, second).unwrap();
+        (if is_second { second } else { first })[..length].to_vec()
+    }
 }
 
 type Done = Vec<(&'static str, bool)>;
 
 pub fn all() -> Done {
-    [frames(), starts(), resumes(), kept_words(), files(), end_word::all(), ramp::all(), crc::all()].concat()
+    [frames(), starts(), resumes(), kept_words(), files(), end_word::all(), ramp::all(), crc::all(), tag::all()].concat()
 }
 
 fn frames() -> Done {

@@ -16,6 +16,7 @@ mod missing;
 mod ramp;
 mod story;
 mod summary;
+mod tag;
 mod world;
 
 pub use self::files::generate;

@@ -1,5 +1,5 @@
 //! The second program: the V233 bench written once more from documents 01, 000 and 02 alone, to
-//! be compared with the product. Of document 02 it has requests 1 to 5.
+//! be compared with the product. Of document 02 it has requests 1 to 6.
 //!
 //!   second run | trace | calls     reads standard input to its end, prints what the product's
 //!                                  program of that name prints
@@ -7,7 +7,7 @@
 //!                                  some that are the same for any seed
 //!   second answers DIR             writes this program's answers beside those files
 //!   second summary DIR             what the files of DIR reach
-//!   second selftest                document 01's starred examples, and examples of requests 3 to 5
+//!   second selftest                document 01's starred examples, and examples of requests 3 to 6
 
 mod answer;
 mod board;

@@ -15,6 +15,8 @@ pub fn rule(offset: u32) -> Option<(bool, bool, u16)> {
         0x0C => Some((true, false, 0)),
         0x14 => Some((true, true, 0x00FF)),
         0x20..=0x2A => Some((true, true, 0x01FF)),
+        // document 02, request 6: "Register 2C joins the map with D8 active, D7–D0 code."
+        0x2C => Some((true, true, 0x01FF)),
         0x30..=0x3E => Some((false, true, 0x0001)),
         0x40..=0xDE if offset % 4 == 0 => Some((true, true, 0x00FF)),
         0x40..=0xDE => Some((true, true, 0xFFFF)),

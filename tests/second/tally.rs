@@ -89,6 +89,34 @@ tallies! {
     ramp_refused_last_pair ramp_refused_last_is_n ramp_refused_last_above_n ramp_refused_last_all_ones
     ramp_refused_codes_one_short ramp_refused_remainders_one_short ramp_refused_codes_with_room
     ramp_refused_remainders_with_room
+    tag_register_read tag_register_read_without_high_bits tag_register_read_after_reset
+    tag_by_event tag_by_event_with_group_end tag_by_event_with_start tag_by_event_with_group_end_and_start
+    tag_by_event_with_resume tag_by_event_of_register_with_high_bits
+    tag_by_command tag_by_command_with_group_end tag_by_command_with_start tag_by_command_with_group_end_and_start
+    tag_by_command_with_resume
+    tag_while_idle tag_in_start_delay tag_in_start_gap tag_in_new_start_delay tag_between_words tag_while_paused
+    tag_in_resume_delay tag_in_silent_ticks tag_while_last_repeats
+    tag_again_before_send tag_of_several_ended tag_on_two_channels_at_once
+    tag_event_disarmed tag_event_inactive tag_event_refused tag_event_of_other_channel
+    tag_command_disarmed tag_command_refused tag_command_of_other_channel
+    tag_kept_over_user_change tag_kept_over_same_user tag_kept_over_arm tag_kept_over_restart tag_kept_over_resume
+    tag_kept_over_reset_without_d0 tag_kept_over_register_write tag_kept_over_drop_on_other_channel
+    tag_kept_over_command_by_d0 tag_kept_over_command_by_d1 tag_kept_over_command_reply tag_of_group_end_kept_over_command
+    tag_kept_through_many_ticks
+    tag_dropped_by_group_end_event tag_dropped_by_group_end_command tag_dropped_by_group_end_with_start
+    tag_dropped_by_group_end_while_idle tag_dropped_by_disarm tag_dropped_by_disarm_while_idle
+    tag_dropped_by_reset tag_dropped_by_reset_while_idle tag_dropped_by_opening
+    tag_used_by_first_word tag_used_by_next_word tag_used_by_word_after_resume tag_used_by_repeat_of_pause
+    tag_used_by_repeat_in_resume_delay tag_used_by_repeat_of_last tag_used_right_after_tagged_send
+    tag_used_by_send_with_shortfall tag_used_by_only_send_of_record
+    tag_ended_by_first_word tag_ended_by_next_word tag_ended_by_word_after_resume tag_ended_by_repeat_of_pause
+    tag_ended_by_repeat_in_resume_delay tag_ended_by_repeat_of_last
+    tag_used_and_ended_in_one_record tag_used_early_in_long_record tag_send_with_shortfall
+    tag_reply_kept tag_reply_sixth tag_reply_unasked tag_reply_crc_wrong tag_reply_lost tag_reply_crc_wrong_lost
+    tag_reply_in_new_start_delay tag_reply_after_more_ticks tag_reply_after_next_tag tag_after_send_before_reply
+    tag_with_no_flag tag_with_d31 tag_with_d30 tag_with_d29 tag_with_d31_and_d30 tag_with_d31_and_d29 tag_of_other_user
+    tag_in_part tag_word_like_end_word tag_word_like_end_word_in_part tag_words_like_end_word_in_part
+    tag_word_like_end_word_begins_part tag_word_like_end_word_ends_part
 }
 
 #[derive(Clone)]

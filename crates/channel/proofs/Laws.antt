@@ -12,19 +12,4 @@ disarm-latches-nothing c = refl
 
 pub arm-armed : (c : Channel) → c .sequencer .armed ≡ true → armedOf c ≡ c
 unfolding armedOf seq.armed
-arm-armed c e =
-    ap
-    (λ (b : Bool).
-    withSequencer c
-    (record {
-      armed = b;
-      stage = c .sequencer .stage;
-      left = c .sequencer .left;
-      resume = c .sequencer .resume;
-      index = c .sequencer .index;
-      word = c .sequencer .word;
-      last = c .sequencer .last;
-      count = c .sequencer .count;
-      missing = c .sequencer .missing;
-    }))
-    (sym e)
+arm-armed c e = ap (λ (b : Bool). withSequencer c (seq.withArmed (c .sequencer) b)) (sym e)

@@ -1,6 +1,6 @@
 -- Document 01, 'A channel's life': what a channel does, over its own part of the lent memory (16 × N setpoint words, 2 × M readback words).
 -- Document 02, card 1: command frames, at a tick and a Group End; card 2: what a setpoint send latches for the send before it; card 3: an end word at
--- every Group End.
+-- every Group End; card 6: tags.
 use Prim.Native.Nat.{ℕ, _+_, _-_, _*_, _%_}
 use mathlib.Core.Bool.{Bool, true, false, cond}
 use mathlib.Core.List.{List}
@@ -11,7 +11,7 @@ use Rattle.status.specs.declared.Status.{Status}
 use Rattle.status.specs.Bits.{bitAt, bitOf}
 use Rattle.status.specs.Latching.{latched, run, groupEnd, earlyEnd, missingReadback}
 use Rattle.registers.specs.declared.Registers.{Registers}
-use Rattle.registers.specs.Map.{periodOf, triggersOf, startEvent, groupEndEvent, delayOf, secondActive, readbackPlace}
+use Rattle.registers.specs.Map.{periodOf, triggersOf, startEvent, groupEndEvent, tagEvent, delayOf, secondActive, readbackPlace}
 use Rattle.registers.specs.Map as reg
 use Rattle.sequencer.specs.declared.LastSend.{LastSend}
 use Rattle.sequencer.specs.declared.Sequencer.{Sequencer}
@@ -67,7 +67,7 @@ groupEnded c =
 unfoldable pub groupWords : Channel → List ℕ → ℕ → List ℕ
 groupWords c s m = endWords (c .readbacks) s (secondActive (c .registers) readbackPlace) m
 
--- ---- "One event or command does Group End, Start, Resume in that order."
+-- ---- "One event or command does Group End, Start, Resume in that order."; card 6: "Tag acts last within one event or command."
 
 -- Group End, where it is asked for
 unfoldable pub endedIf : Bool → Channel → Channel
@@ -84,6 +84,10 @@ startedIf on c delay = cond on (started c delay) c
 unfoldable pub resumedIf : Bool → Channel → ℕ → ℕ → Channel
 resumedIf on c pause delay = cond on (withSequencer c (seq.resumed (c .sequencer) pause delay)) c
 
+-- Tag, where it is asked for
+unfoldable pub taggedIf : Bool → Channel → Channel
+taggedIf on c = cond on (withSequencer c (seq.tagged (c .sequencer))) c
+
 -- "Resume k (its event, for pause k)": each Resume event with this code, by the registers `r`, with the current user's delay
 unfoldable pub resumedOn : Registers → Channel → ℕ → ℕ → Channel
 resumedOn r c user code =
@@ -98,18 +102,20 @@ resumedOn r c user code =
 -- an event: its registers say what it does; delays are the current user's
 unfoldable pub eventOf : Channel → ℕ → ℕ → Channel
 eventOf c user code =
-    resumedOn (c .registers)
+    taggedIf (triggersOf (c .registers) tagEvent code)
+    (resumedOn (c .registers)
     (startedIf (triggersOf (c .registers) startEvent code) (endedIf (triggersOf (c .registers) groupEndEvent code) c)
     (delayOf (c .registers) 0 user))
-    user code
+    user code)
 
 -- its readback words after an event: Group End writes an end word
 unfoldable pub eventWords : Channel → List ℕ → ℕ → ℕ → List ℕ
 eventWords c s m code = endedWords (triggersOf (c .registers) groupEndEvent code) c s m
 
--- a write to Commands: D2 Group End, D0 Start, D1 Resume of the VME pause (pause 0); delays are 0
+-- a write to Commands: D2 Group End, D0 Start, D1 Resume of the VME pause (pause 0), D3 Tag; delays are 0
 unfoldable pub commanded : Channel → ℕ → Channel
-commanded c value = resumedIf (bitAt value 1) (startedIf (bitAt value 0) (endedIf (bitAt value 2) c) 0) 0 0
+commanded c value =
+    taggedIf (bitAt value 3) (resumedIf (bitAt value 1) (startedIf (bitAt value 0) (endedIf (bitAt value 2) c) 0) 0 0)
 
 -- its readback words after a write to Commands
 unfoldable pub commandWords : Channel → List ℕ → ℕ → ℕ → List ℕ

@@ -6,6 +6,7 @@
 -- Document 02, card 1: "A channel's solitary definition now has these registers."
 --   E0–FE, the frame that waits, whether replies go to E4–FA    commands (crate `command_frames`)
 -- Card 2: "The channel record carries the Frame ID of its last setpoint send and this count."    sequencer
+-- Card 6: "a tag not yet used", and whether the last setpoint send used one    sequencer
 use Prim.Native.Nat.{ℕ}
 use Rattle.status.specs.declared.Status.{Status}
 use Rattle.status.specs.Latching as st

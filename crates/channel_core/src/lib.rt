@@ -1,5 +1,7 @@
 // A channel's life: Start, Group End, events and commands, user changes and ticks, over the channel's own part of the lent memory.
 // It knows no board and no other channel.
+mod ticks;
+
 use command_frames::CommandFrames;
 use readback::Readbacks;
 use refusal::Refusal;
@@ -15,7 +17,7 @@ ghost use Rattle.frame.specs.Frames.{encoded};
 ghost use Rattle.status.specs.Bits.{bitOf};
 ghost use Rattle.channel_core.specs.Answers.{lineOf};
 ghost use Rattle.channel_core.specs.State.{opened, reset};
-ghost use Rattle.channel_core.specs.Behaviour.{started, earlyEnded, userChanged, groupEnded, endedIf, endedWords, startedIf, resumedIf, resumedOn, eventOf, eventWords, commanded, commandWords, setpointPlace, dueOf, shortfallStatus, latchedBy, sendStatus, isSetpoint, commandAnswer, tickLine, tickOf, tickAnswer};
+ghost use Rattle.channel_core.specs.Behaviour.{started, earlyEnded, userChanged, groupEnded, endedIf, endedWords, startedIf, resumedIf, taggedIf, resumedOn, eventOf, eventWords, commanded, commandWords, setpointPlace, shortfallStatus, latchedBy, sendStatus, isSetpoint, commandAnswer, tickLine};
 
 pub struct Channel {
     pub status: Status,
@@ -250,6 +252,18 @@ impl Channel {
         self
     }
 
+    fn tag_if(self, on: bool) -> Channel
+        ensures { λ r. ⌜ r ≡ taggedIf on self ⌝ }
+    {
+        if on {
+            let sequencer = self.sequencer;
+            let mut c = self;
+            c.sequencer = sequencer.tagged();
+            return c;
+        }
+        self
+    }
+
     // Each Resume event that has this code.
     fn resume_on(self, registers: Registers, user: u8, code: u8) -> Channel
         ensures { λ c. ⌜ c ≡ resumedOn registers self user code ⌝ }
@@ -260,7 +274,7 @@ impl Channel {
         third.resume_if(registers.triggers(4, code), 4, registers.delay(4, user))
     }
 
-    // An event: Group End, Start, Resume, as its registers say.
+    // An event: Group End, Start, Resume, Tag, as its registers say.
     pub fn event(self, words: &mut [u32], m: u32, user: u8, code: u8) -> Channel
         ensures { λ r. ⌜ (r ≡ eventOf self user code) × (now (words .exit) ≡ eventWords self (now (words .entry)) m code) ⌝ }
     {
@@ -269,56 +283,17 @@ impl Channel {
         let ended = self.end_if(ends, words, m);
         let starts = registers.triggers(registers::START_EVENT, code);
         let started = ended.start_if(starts, registers.delay(0, user));
-        started.resume_on(registers, user, code)
+        let resumed = started.resume_on(registers, user, code);
+        resumed.tag_if(registers.triggers(registers::TAG_EVENT, code))
     }
 
-    // A write to Commands: D2 Group End, D0 Start, D1 Resume of the VME pause.
+    // A write to Commands: D2 Group End, D0 Start, D1 Resume of the VME pause, D3 Tag.
     pub fn command(self, words: &mut [u32], m: u32, value: u16) -> Channel
         ensures { λ r. ⌜ (r ≡ commanded self value) × (now (words .exit) ≡ commandWords self (now (words .entry)) m value) ⌝ }
     {
         let ended = self.end_if(status::is_set(value, 2), words, m);
         let started = ended.start_if(status::is_set(value, 0), 0);
-        started.resume_if(status::is_set(value, 1), 0, 0)
-    }
-
-    // The word at the index due, of the current user's active buffer.
-    fn due(self, setpoints: &[u32], n: u32, user: u8) -> u32
-        ensures { λ r. ⌜ r ≡ dueOf self (now (setpoints .entry)) n user ⌝ }
-    {
-        let registers = self.registers;
-        let sequencer = self.sequencer;
-        let at = setpoint_place(
-            registers::zero_based(user),
-            registers.second_active(user),
-            n,
-            sequencer.index,
-        );
-        word_at(setpoints, at)
-    }
-
-    // One tick: the sequencer's, what a send latches and shows, and a command frame that is due.
-    pub fn tick(self, setpoints: &[u32], n: u32, user: u8) -> Ticked
-        ensures { λ r. ⌜ (r .channel ≡ tickOf self (now (setpoints .entry)) n user) × (lineOf (r .line) ≡ tickAnswer self (now (setpoints .entry)) n user) ⌝ }
-    {
-        let registers = self.registers;
-        let sequencer = self.sequencer;
-        let status = self.status;
-        let commands = self.commands;
-        let ticked = sequencer.tick(
-            self.due(setpoints, n, user),
-            n,
-            registers::period(registers.clock),
-            registers.id,
-        );
-        let next = ticked.sequencer;
-        let sent = ticked.transmission;
-        let mut c = self;
-        c.status = send_status(status, sequencer.last, sent);
-        c.sequencer = next;
-        c.commands = commands.ticked(sends(sent));
-        Ticked {
-            channel: c,
-            line: send_line(registers.id, commands, sent),
-        }
+        let resumed = started.resume_if(status::is_set(value, 1), 0, 0);
+        resumed.tag_if(status::is_set(value, 3))
     }
 }

@@ -9,7 +9,7 @@ use Rattle.sequencer.specs.Playing as seq
 use Rattle.readback.specs.Storing.{dispositionOf, storedWord}
 use Rattle.command_frames.specs.Commanding as cmd
 use Rattle.channel_core.specs.State.{opened, reset}
-use Rattle.channel_core.specs.Behaviour.{started, groupEnded, groupWords, startedIf, endedIf, endedWords, resumedIf, eventWords, commanded, commandWords, dueOf, tickOf}
+use Rattle.channel_core.specs.Behaviour.{started, groupEnded, groupWords, startedIf, endedIf, endedWords, resumedIf, taggedIf, eventWords, commanded, commandWords, dueOf, tickOf}
 use Rattle.channel_replies.specs.Replying.{dispositionNow, replyAnswer, replyOf, replyWords}
 use Rattle.channel_registers.specs.Calls.{registerRefusal, registerEffect, registerWords, readValue}
 use Rattle.channel.specs.Calls.{armedOf, disarmedOf}
@@ -17,7 +17,7 @@ use Rattle.channel.specs.OneChannel.{retiredOf, refusalOf, effect, answer, tran
 use Rattle.examples.specs.EndWordRows.{EndWordRows}
 
 pub end-word-rows : EndWordRows
-unfolding storedWord retiredOf eventWords transition response refusalOf effect answer registerRefusal registerEffect registerWords readValue channelAccess stored armedOf disarmedOf started groupEnded groupWords startedIf endedIf endedWords resumedIf commanded commandWords dueOf tickOf dispositionOf dispositionNow replyAnswer replyOf replyWords seq.armed seq.idled seq.started seq.answered seq.ticked seq.advancing seq.sentNext seq.sentAs seq.groupEnded seq.shortfall reg.groupEnded flips cmd.stored cmd.ticked cmd.takes opened reset read crcRight crcFor crcOf
+unfolding storedWord retiredOf eventWords transition response refusalOf effect answer registerRefusal registerEffect registerWords readValue channelAccess stored armedOf disarmedOf started groupEnded groupWords startedIf endedIf endedWords resumedIf taggedIf commanded commandWords dueOf tickOf dispositionOf dispositionNow replyAnswer replyOf replyWords seq.armed seq.idled seq.started seq.answered seq.ticked seq.advancing seq.sentNext seq.sentAs seq.groupEnded seq.shortfall reg.groupEnded flips cmd.stored cmd.ticked cmd.takes opened reset read crcRight crcFor crcOf
 end-word-rows =
     record {
       one-lost = refl;

@@ -4,4 +4,5 @@ pub mod Starred
 pub mod CommandRows
 pub mod MissingRows
 pub mod EndWordRows
+pub mod TagRows
 pub mod Reached

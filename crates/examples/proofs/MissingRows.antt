@@ -11,7 +11,7 @@ use Rattle.sequencer.specs.Playing as seq
 use Rattle.readback.specs.Storing.{dispositionOf}
 use Rattle.command_frames.specs.Commanding as cmd
 use Rattle.channel_core.specs.State.{opened, reset}
-use Rattle.channel_core.specs.Behaviour.{started, groupEnded, groupWords, userChanged, startedIf, endedIf, endedWords, resumedIf, commanded, commandWords, dueOf, tickOf, tickAnswer}
+use Rattle.channel_core.specs.Behaviour.{started, groupEnded, groupWords, userChanged, startedIf, endedIf, endedWords, resumedIf, taggedIf, commanded, commandWords, dueOf, tickOf, tickAnswer}
 use Rattle.channel_replies.specs.Replying.{dispositionNow, replyAnswer, replyOf, replyWords}
 use Rattle.channel_registers.specs.Calls.{registerRefusal, registerEffect, registerWords, readEffect, readValue}
 use Rattle.channel.specs.Calls.{armedOf, disarmedOf}
@@ -19,7 +19,7 @@ use Rattle.channel.specs.OneChannel.{refusalOf, effect, answer, transition, res
 use Rattle.examples.specs.MissingRows.{MissingRows}
 
 pub missing-rows : MissingRows
-unfolding transition response refusalOf effect answer registerRefusal registerEffect registerWords readEffect readValue channelAccess mainAccess stored armedOf disarmedOf started groupEnded groupWords userChanged startedIf endedIf endedWords resumedIf commanded commandWords dueOf tickOf tickAnswer dispositionOf dispositionNow replyAnswer replyOf replyWords seq.armed seq.disarmed seq.idled seq.started seq.resumed seq.answered seq.ticked seq.advancing seq.repeating seq.repeated seq.sentNext seq.sentAs seq.groupEnded seq.shortfall reg.groupEnded flips cmd.stored cmd.groupEnded cmd.ticked cmd.takes cmd.dropped opened reset latched wordOfBits read crcRight encoded crcFor crcOf
+unfolding transition response refusalOf effect answer registerRefusal registerEffect registerWords readEffect readValue channelAccess mainAccess stored armedOf disarmedOf started groupEnded groupWords userChanged startedIf endedIf endedWords resumedIf taggedIf commanded commandWords dueOf tickOf tickAnswer dispositionOf dispositionNow replyAnswer replyOf replyWords seq.armed seq.disarmed seq.idled seq.started seq.resumed seq.answered seq.ticked seq.advancing seq.repeating seq.repeated seq.sentNext seq.sentAs seq.groupEnded seq.shortfall reg.groupEnded flips cmd.stored cmd.groupEnded cmd.ticked cmd.takes cmd.dropped opened reset latched wordOfBits read crcRight encoded crcFor crcOf
 missing-rows =
     record {
       none-before = refl;

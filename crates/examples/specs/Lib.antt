@@ -4,3 +4,4 @@ pub mod Reached
 pub mod CommandRows
 pub mod MissingRows
 pub mod EndWordRows
+pub mod TagRows

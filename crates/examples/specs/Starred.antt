@@ -91,9 +91,9 @@ pub record ResumeRows : Type 0 where
 
 -- ---- Words
 
--- the last send was first and last, whatever Frame ID it carried
+-- the last send was first and last, and used no tag, whatever Frame ID it carried
 abbrev pub firstAndLast : (id : ℕ) → LastSend
-firstAndLast id = record { sent = true; first = true; paused = false; last = true; id = id; replies = 0 }
+firstAndLast id = record { sent = true; first = true; paused = false; last = true; id = id; tagged = false; replies = 0 }
 
 pub record WordRows : Type 0 where
   -- "D31 with D16: last.", where its place does not make it so (`false`)

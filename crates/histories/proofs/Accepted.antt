@@ -64,6 +64,20 @@ pub query-plain : (o : OneChannel) (which : Query)
 query-plain o call.retired = (refl, refl, refl)
 query-plain o call.retiredLength = (refl, refl, refl)
 
+-- nor is what answers a reply a frame
+pub reply-plain : (c : Channel) (m f : ℕ) → isFrame (replyAnswer c m f) ≡ false
+unfolding replyAnswer
+reply-plain c m f = go (read f)
+  where
+    disposed : (d : Disposition) → isFrame (receiptAnswer d) ≡ false
+    disposed disposition.Unsolicited = refl
+    disposed disposition.Lost = refl
+    disposed disposition.Kept = refl
+
+    go : (g : frame.Reading) → isFrame (replyAnswerAs g c m) ≡ false
+    go (frame.refused k) = refl
+    go (frame.fields id word aux crc) = either (λ (a : Answer). isFrame a ≡ false) (takes (c .commands)) refl (disposed (dispositionNow c m))
+
 -- a well-framed reply, lent what fits, is not refused
 pub framed-accepted : (o : OneChannel) (number : ℕ) {id word aux crc : ℕ} → read number ≡ frame.fields id word aux crc
     → eqb (refusalOf o (call.reply (o .m * 8) number)) 0 ≡ true

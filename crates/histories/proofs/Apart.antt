@@ -28,7 +28,7 @@ use Rattle.command_frames.specs.Commanding as cmd
 use Rattle.command_frames.proofs.Laws.{ticked-due}
 use Rattle.channel_core.specs.declared.Channel.{Channel}
 use Rattle.channel_core.specs.State.{opened, reset, withSequencer, conditionLatched}
-use Rattle.channel_core.specs.Behaviour.{started, groupEnded, endedIf, startedIf, resumedIf, resumedOn, eventOf, commanded, userChanged, dueOf, playedOf, isSetpoint, tickOf}
+use Rattle.channel_core.specs.Behaviour.{started, groupEnded, endedIf, startedIf, resumedIf, taggedIf, resumedOn, eventOf, commanded, userChanged, dueOf, playedOf, isSetpoint, tickOf}
 use Rattle.channel_replies.specs.Replying.{dispositionNow, receivedChannel, replyAs, replyOf}
 use Rattle.channel_registers.specs.Calls.{cannotSend, registerEffect}
 use Rattle.channel.specs.Calls.{armedOf, disarmedOf}
@@ -104,6 +104,11 @@ module _ (f : CommandFrames) (s : Sequencer) (p : Apart f s) where
   apart-armed : Apart f (seq.armed s)
   unfolding seq.armed
   apart-armed = record { due = p .due; due-unsent = p .due-unsent; receiving-unsent = p .receiving-unsent }
+
+  apart-tagged : Apart f (seq.tagged s)
+  unfolding seq.tagged
+  apart-tagged =
+      either (Apart f) (s .armed) (record { due = p .due; due-unsent = p .due-unsent; receiving-unsent = p .receiving-unsent }) p
 
   apart-answered : Apart f (seq.answered s)
   unfolding seq.answered
@@ -205,29 +210,33 @@ module _ (c : Channel) (p : ApartIn c) where
   unfolding resumedIf
   channel-resumed-if on pause delay = either ApartIn on (apart-resumed (c .commands) (c .sequencer) p pause delay) p
 
+  channel-tagged-if : (on : Bool) → ApartIn (taggedIf on c)
+  unfolding taggedIf
+  channel-tagged-if on = either ApartIn on (apart-tagged (c .commands) (c .sequencer) p) p
+
 -- with a Group End, whatever came before
 pub apart-ended-event : (c : Channel) (user code : ℕ) → triggersOf (c .registers) groupEndEvent code ≡ true → ApartIn (eventOf c user code)
 unfolding eventOf resumedOn endedIf groupEnded seq.groupEnded seq.idled
 apart-ended-event c user code on =
-    channel-resumed-if _ (channel-resumed-if _ (channel-resumed-if _ (channel-resumed-if _
-    (channel-started-if _ (rw on (apart-idle (cmd.groupEnded (c .commands)) (seq.groupEnded (c .sequencer)) refl refl)) _ _) _ _ _) _ _ _) _ _ _) _ _ _
+    channel-tagged-if _ (channel-resumed-if _ (channel-resumed-if _ (channel-resumed-if _ (channel-resumed-if _
+    (channel-started-if _ (rw on (apart-idle (cmd.groupEnded (c .commands)) (seq.groupEnded (c .sequencer)) refl refl)) _ _) _ _ _) _ _ _) _ _ _) _ _ _) _
 
 pub apart-ended : (c : Channel) (value : ℕ) → bitAt value 2 ≡ true → ApartIn (commanded c value)
 unfolding commanded endedIf groupEnded seq.groupEnded seq.idled
 apart-ended c value on =
-    channel-resumed-if _
-    (channel-started-if _ (rw on (apart-idle (cmd.groupEnded (c .commands)) (seq.groupEnded (c .sequencer)) refl refl)) _ _) _ _ _
+    channel-tagged-if _ (channel-resumed-if _
+    (channel-started-if _ (rw on (apart-idle (cmd.groupEnded (c .commands)) (seq.groupEnded (c .sequencer)) refl refl)) _ _) _ _ _) _
 
 module _ (c : Channel) (p : ApartIn c) where
   pub apart-event : (user code : ℕ) → ApartIn (eventOf c user code)
   unfolding eventOf resumedOn
   apart-event user code =
-      channel-resumed-if _ (channel-resumed-if _ (channel-resumed-if _ (channel-resumed-if _
-      (channel-started-if _ (channel-ended c p _) _ _) _ _ _) _ _ _) _ _ _) _ _ _
+      channel-tagged-if _ (channel-resumed-if _ (channel-resumed-if _ (channel-resumed-if _ (channel-resumed-if _
+      (channel-started-if _ (channel-ended c p _) _ _) _ _ _) _ _ _) _ _ _) _ _ _) _
 
   apart-command : (value : ℕ) → ApartIn (commanded c value)
   unfolding commanded
-  apart-command value = channel-resumed-if _ (channel-started-if _ (channel-ended c p _) _ _) _ _ _
+  apart-command value = channel-tagged-if _ (channel-resumed-if _ (channel-started-if _ (channel-ended c p _) _ _) _ _ _) _
 
   pub apart-user : ApartIn (userChanged c)
   unfolding userChanged seq.idled

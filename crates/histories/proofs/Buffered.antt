@@ -83,7 +83,7 @@ same o b = unwritten o o false b refl refl refl
 leaving : (o : OneChannel) (c : Channel) (b : Bool) → Leaves (o .channel) c → Buffered o (withChannel o c) false false (cond b [] [])
 leaving o c b l = unwritten o _ false b (ap (λ (r : Registers). secondActive r readbackPlace) (l .registers)) (l .readbacks) refl
 
--- ---- A Group End, by event or command; what Start and Resume do after it leaves that
+-- ---- A Group End, by event or command; what Start, Resume and Tag do after it leaves that
 
 ended : (o : OneChannel) (on : Bool) (c : Channel) → Leaves (endedIf on (o .channel)) c
     → Buffered o (withReadbacks (withChannel o c) (endedWords on (o .channel) (o .readbacks) (o .m))) on false []
@@ -115,7 +115,7 @@ stored-active r offset value =
     either P (eqb offset 0x0a) refl
     (either P (eqb offset 0x14) refl
     (either P (ltb offset 0x20) refl
-    (either P (ltb offset 0x2c) refl
+    (either P (ltb offset 0x2e) refl
     (either P (ltb offset 0x30) refl
     (either P (ltb offset 0x40) refl (either P (ltb offset 0xe0) refl refl))))))
 

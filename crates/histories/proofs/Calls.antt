@@ -40,7 +40,7 @@ StepsOf n c a ends again stops reads t =
 
 reset-if : (n : ℕ) (c : Channel) (on : Bool) → StepsOf n c ans.done false on false false (cond on (reset c) c .sequencer)
 unfolding reset
-reset-if n c true = idle-steps n (c .sequencer) false true
+reset-if n c true = idle-steps n (c .sequencer) false true false
 reset-if n c false = same-steps n c ans.done (c .sequencer) (refl, refl) refl
 
 -- E0–FE and the registers that hold what is written leave the sequencer
@@ -109,7 +109,7 @@ user-steps o user = go (eqb user (o .user))
         → StepsOf (o .n) (o .channel) ans.done false false (not b) false
         (cond b o (call.withUser (call.withChannel o (userChanged (o .channel))) user) .channel .sequencer)
     go true = same-steps (o .n) (o .channel) ans.done (o .channel .sequencer) (refl, refl) refl
-    go false = idle-steps (o .n) (o .channel .sequencer) (o .channel .sequencer .armed) false
+    go false = idle-steps (o .n) (o .channel .sequencer) (o .channel .sequencer .armed) false (o .channel .sequencer .tag)
 
 pub period-some : (clock : ℕ) → 1 ≤ periodOf clock
 period-some clock = go (eqb clock 0) (eqb clock 1) (eqb clock 2)
@@ -130,7 +130,7 @@ effect-steps o (call.readRegister offset) p =
     (sym (read-sequencer (o .channel) offset)) (read-steps (o .n) (o .channel) _ (eqb offset 0x0c) (refl, refl))
 effect-steps o (call.writeSetpoint lent user buffer index word) p = same-steps (o .n) (o .channel) _ _ (refl, refl) refl
 effect-steps o call.arm p = kept-steps (o .n) (o .channel) _ _ (refl, refl) (keeps-armed (o .channel .sequencer))
-effect-steps o call.disarm p = idle-steps (o .n) (o .channel .sequencer) false false
+effect-steps o call.disarm p = idle-steps (o .n) (o .channel .sequencer) false false false
 effect-steps o (call.reply lent f) p = reply-steps (o .n) (o .channel) (o .m) f _
 effect-steps o (call.query which one two) p = same-steps (o .n) (o .channel) _ _ (query-plain o which .1, query-plain o which .2) refl
 effect-steps o (call.tick lent) p =

@@ -27,7 +27,7 @@ pub record Ended (c d : Channel) : Type 0 where
   pub unsent : d .sequencer .last .sent ≡ false
   pub apart : ApartIn d
 
--- Start and Resume after it leave what it left
+-- Start, Resume and Tag after it leave what it left
 ended-by : (c d : Channel) (on : Bool) → on ≡ true → Leaves (endedIf on c) d → d .sequencer .last ≡ endedIf on c .sequencer .last → ApartIn d → Ended c d
 unfolding endedIf groupEnded seq.groupEnded seq.idled
 ended-by c d true e l s a = record { leaves = l; unsent = ap (λ (x : LastSend). x .sent) s; apart = a }

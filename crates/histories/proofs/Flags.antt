@@ -28,8 +28,8 @@ use Rattle.channel_core.specs.declared.Channel.{Channel}
 use Rattle.channel_core.specs.Answers.{Answer, isFrame}
 use Rattle.channel_core.specs.Answers as ans
 use Rattle.channel_core.specs.State.{reset, withRegisters, withCommands}
-use Rattle.channel_core.specs.Behaviour.{started, startedIf, endedIf, resumedIf, resumedOn, eventOf, commanded, groupEnded, earlyEnded, userChanged, conditionStatus, sendStatus, isSetpoint, playedOf, tickOf, tickAnswer}
-use Rattle.channel_replies.specs.Replying.{crcStatus, dispositionNow, receiptAnswer, receivedChannel, replyAs, replyAnswerAs, replyOf, replyAnswer}
+use Rattle.channel_core.specs.Behaviour.{started, startedIf, endedIf, resumedIf, taggedIf, resumedOn, eventOf, commanded, groupEnded, earlyEnded, userChanged, conditionStatus, sendStatus, isSetpoint, playedOf, tickOf, tickAnswer}
+use Rattle.channel_replies.specs.Replying.{crcStatus, dispositionNow, receivedChannel, replyAs, replyOf}
 use Rattle.channel_registers.specs.Calls.{registerEffect, readEffect}
 use Rattle.channel.specs.Calls.{mainTaken, armedOf, disarmedOf}
 use Rattle.channel.specs.OneChannel.{ChannelCall, OneChannel, effect, answer, transition, response, mainRead}
@@ -38,7 +38,7 @@ use Rattle.channel.proofs.Cases.{either}
 use Rattle.histories.specs.History.{entry, asks, readsNothing, resets, readsAt}
 use Rattle.histories.specs.Missing.{shortfallOf}
 use Rattle.histories.specs.Ranges.{StatusInRange}
-use Rattle.histories.proofs.Accepted.{query-plain}
+use Rattle.histories.proofs.Accepted.{query-plain, reply-plain}
 use Rattle.histories.proofs.Apart.{ApartIn, apart-nothing}
 use Rattle.histories.proofs.Calls.{main-plain}
 use Rattle.histories.proofs.Cases.{at-or-not, by-offset}
@@ -107,14 +107,18 @@ module _ (polling : Bool) where
   unfolding resumedIf
   keeps-resumed on c pause delay = either (Keeps c) on refl refl
 
+  keeps-tagged : (on : Bool) (c : Channel) → Keeps c (taggedIf on c)
+  unfolding taggedIf
+  keeps-tagged on c = either (Keeps c) on refl refl
+
   keeps-event : (c : Channel) (user code : ℕ) → Keeps c (eventOf c user code)
   unfolding eventOf resumedOn
   keeps-event c user code =
-      keeps-resumed _ _ _ _ ∙ keeps-resumed _ _ _ _ ∙ keeps-resumed _ _ _ _ ∙ keeps-resumed _ _ _ _ ∙ keeps-started _ _ _ ∙ keeps-ended _ c
+      keeps-tagged _ _ ∙ keeps-resumed _ _ _ _ ∙ keeps-resumed _ _ _ _ ∙ keeps-resumed _ _ _ _ ∙ keeps-resumed _ _ _ _ ∙ keeps-started _ _ _ ∙ keeps-ended _ c
 
   keeps-command : (c : Channel) (value : ℕ) → Keeps c (commanded c value)
   unfolding commanded
-  keeps-command c value = keeps-resumed _ _ _ _ ∙ keeps-started _ _ _ ∙ keeps-ended _ c
+  keeps-command c value = keeps-tagged _ _ ∙ keeps-resumed _ _ _ _ ∙ keeps-started _ _ _ ∙ keeps-ended _ c
 
   keeps-main : (c : Channel) (offset : ℕ) → Keeps c (mainRead c offset)
   unfolding mainTaken
@@ -235,19 +239,6 @@ module _ (polling : Bool) where
             ∙ ap (λ (b : Bool). flagIn polling (c .status) || (b && short (c .sequencer .last)))
             (sym (line-sends (c .registers .id) (c .commands) x (apart-nothing c (o .setpoints) (o .n) (o .user) p)));
       }
-
-  reply-plain : (c : Channel) (m f : ℕ) → isFrame (replyAnswer c m f) ≡ false
-  unfolding replyAnswer
-  reply-plain c m f = go (read f)
-    where
-      disposed : (d : Disposition) → isFrame (receiptAnswer d) ≡ false
-      disposed disposition.Unsolicited = refl
-      disposed disposition.Lost = refl
-      disposed disposition.Kept = refl
-
-      go : (g : Reading) → isFrame (replyAnswerAs g c m) ≡ false
-      go (frame.refused k) = refl
-      go (frame.fields id word aux crc) = either (λ (a : Answer). isFrame a ≡ false) (takes (c .commands)) refl (disposed (dispositionNow c m))
 
   effect-steps : (o : OneChannel) (k : ChannelCall) → ApartIn (o .channel) → StatusInRange (o .channel .status)
       → Steps (o .channel) (answer o k) (asks o k .reset) (asks o k .reads) (effect o k .channel .status)

@@ -1,4 +1,4 @@
--- Arming, Start and Resume keep both counts and the last send, idle no channel, and keep the countdowns in range. Assumes nothing.
+-- Arming, Start, Resume and Tag keep both counts and the last send, idle no channel, and keep the countdowns in range. Assumes nothing.
 use Prim.Native.Nat.{ℕ, _≤_, _<_}
 use mathlib.Core.Path.{_≡_, refl, _∙_, subst}
 use mathlib.Core.Bool.{Bool, true, false}
@@ -7,9 +7,9 @@ use lib.Dec.{eqb}
 use Rattle.sequencer.specs.declared.Stage.{Stage}
 use Rattle.sequencer.specs.declared.Stage.the-variants as stage
 use Rattle.sequencer.specs.declared.Sequencer.{Sequencer}
-use Rattle.sequencer.specs.Playing.{isIdle, armed, started, loadedResume, resumedAt, resumed}
+use Rattle.sequencer.specs.Playing.{isIdle, armed, started, loadedResume, resumedAt, resumed, tagged, withTag}
 use Rattle.channel_core.specs.declared.Channel.{Channel}
-use Rattle.channel_core.specs.Behaviour.{startedIf, resumedIf, resumedOn, eventOf, commanded, endedIf}
+use Rattle.channel_core.specs.Behaviour.{startedIf, resumedIf, taggedIf, resumedOn, eventOf, commanded, endedIf}
 use Rattle.channel_core.specs.Behaviour as core
 use Rattle.status.specs.Bits.{bitAt}
 use Rattle.registers.specs.Map.{triggersOf, groupEndEvent}
@@ -104,15 +104,25 @@ unfolding resumedIf
 keeps-resumed-if true c pause delay = keeps-resumed (c .sequencer) pause delay
 keeps-resumed-if false c pause delay = keeps-all (c .sequencer)
 
--- Start, then Resume: what one event or command does after its Group End, if any
+keeps-tag : (s : Sequencer) → Keeps s (withTag s true)
+keeps-tag s =
+    record { count-kept = refl; missing-kept = refl; last-kept = refl; idle-kept = λ e. e; index-kept = λ n h i. i; countdown-kept = λ p. p }
+
+keeps-tagged-if : (on : Bool) (c : Channel) → Keeps (c .sequencer) (taggedIf on c .sequencer)
+unfolding taggedIf tagged
+keeps-tagged-if true c = either (Keeps (c .sequencer)) (c .sequencer .armed) (keeps-tag (c .sequencer)) (keeps-all (c .sequencer))
+keeps-tagged-if false c = keeps-all (c .sequencer)
+
+-- Start, Resume, then Tag: what one event or command does after its Group End, if any
 pub keeps-event : (c : Channel) (user code : ℕ)
     → Keeps (endedIf (triggersOf (c .registers) groupEndEvent code) c .sequencer) (eventOf c user code .sequencer)
 unfolding eventOf resumedOn
 keeps-event c user code =
     keeps-both (keeps-started-if _ _ _)
     (keeps-both (keeps-resumed-if _ _ _ _)
-    (keeps-both (keeps-resumed-if _ _ _ _) (keeps-both (keeps-resumed-if _ _ _ _) (keeps-resumed-if _ _ _ _))))
+    (keeps-both (keeps-resumed-if _ _ _ _)
+    (keeps-both (keeps-resumed-if _ _ _ _) (keeps-both (keeps-resumed-if _ _ _ _) (keeps-tagged-if _ _)))))
 
 pub keeps-command : (c : Channel) (value : ℕ) → Keeps (endedIf (bitAt value 2) c .sequencer) (commanded c value .sequencer)
 unfolding commanded
-keeps-command c value = keeps-both (keeps-started-if _ _ _) (keeps-resumed-if _ _ _ _)
+keeps-command c value = keeps-both (keeps-started-if _ _ _) (keeps-both (keeps-resumed-if _ _ _ _) (keeps-tagged-if _ _))

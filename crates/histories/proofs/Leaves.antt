@@ -1,4 +1,4 @@
--- Start, Resume and reads leave the registers, the stored readback counts and the command frames. Assumes nothing.
+-- Start, Resume, Tag and reads leave the registers, the stored readback counts and the command frames. Assumes nothing.
 use Prim.Native.Nat.{ℕ}
 use mathlib.Core.Path.{_≡_, refl, _∙_}
 use mathlib.Core.Bool.{Bool, true, false}
@@ -7,7 +7,7 @@ use Rattle.status.specs.Bits.{bitAt}
 use Rattle.registers.specs.Map.{triggersOf, groupEndEvent}
 use Rattle.sequencer.specs.Playing.{isIdle}
 use Rattle.channel_core.specs.declared.Channel.{Channel}
-use Rattle.channel_core.specs.Behaviour.{started, startedIf, endedIf, resumedIf, resumedOn, eventOf, commanded}
+use Rattle.channel_core.specs.Behaviour.{started, startedIf, endedIf, resumedIf, taggedIf, resumedOn, eventOf, commanded}
 use Rattle.channel_registers.specs.Calls.{readEffect}
 use Rattle.channel.specs.Calls.{mainTaken}
 use Rattle.channel.specs.OneChannel.{mainRead}
@@ -38,17 +38,22 @@ leaves-resumed : (on : Bool) (c : Channel) (pause delay : ℕ) → Leaves c (res
 unfolding resumedIf
 leaves-resumed on c pause delay = either (Leaves c) on (record { registers = refl; readbacks = refl; commands = refl }) (leaves-all c)
 
+leaves-tagged : (on : Bool) (c : Channel) → Leaves c (taggedIf on c)
+unfolding taggedIf
+leaves-tagged on c = either (Leaves c) on (record { registers = refl; readbacks = refl; commands = refl }) (leaves-all c)
+
 -- what one event or command does after its Group End, if any
 pub leaves-event : (c : Channel) (user code : ℕ) → Leaves (endedIf (triggersOf (c .registers) groupEndEvent code) c) (eventOf c user code)
 unfolding eventOf resumedOn
 leaves-event c user code =
     leaves-both (leaves-started _ _ _)
     (leaves-both (leaves-resumed _ _ _ _)
-    (leaves-both (leaves-resumed _ _ _ _) (leaves-both (leaves-resumed _ _ _ _) (leaves-resumed _ _ _ _))))
+    (leaves-both (leaves-resumed _ _ _ _)
+    (leaves-both (leaves-resumed _ _ _ _) (leaves-both (leaves-resumed _ _ _ _) (leaves-tagged _ _)))))
 
 pub leaves-command : (c : Channel) (value : ℕ) → Leaves (endedIf (bitAt value 2) c) (commanded c value)
 unfolding commanded
-leaves-command c value = leaves-both (leaves-started _ _ _) (leaves-resumed _ _ _ _)
+leaves-command c value = leaves-both (leaves-started _ _ _) (leaves-both (leaves-resumed _ _ _ _) (leaves-tagged _ _))
 
 -- a register read and a Main read clear what they showed, and no more
 pub leaves-read : (c : Channel) (offset : ℕ) → Leaves c (readEffect c offset)

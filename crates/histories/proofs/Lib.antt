@@ -25,3 +25,5 @@ pub mod Holding
 pub mod Keeping
 pub mod EndWords
 pub mod Replying
+pub mod Tagged
+pub mod Tags

@@ -31,7 +31,7 @@ use Rattle.command_frames.specs.Commanding as cmd
 use Rattle.command_frames.proofs.Laws.{taken-few}
 use Rattle.channel_core.specs.declared.Channel.{Channel}
 use Rattle.channel_core.specs.State.{opened, reset, withStatus, withRegisters, withSequencer, withCommands}
-use Rattle.channel_core.specs.Behaviour.{started, startedIf, endedIf, resumedIf, resumedOn, eventOf, commanded, groupEnded, earlyEnded, userChanged, conditionStatus, sendStatus, isSetpoint, dueOf, playedOf, tickOf}
+use Rattle.channel_core.specs.Behaviour.{started, startedIf, endedIf, resumedIf, taggedIf, resumedOn, eventOf, commanded, groupEnded, earlyEnded, userChanged, conditionStatus, sendStatus, isSetpoint, dueOf, playedOf, tickOf}
 use Rattle.channel_replies.specs.Replying.{crcStatus, dispositionNow, receivedChannel, replyAs, replyOf}
 use Rattle.channel.specs.Calls.{disarmedOf}
 use Rattle.channel.proofs.Cases.{clash, either, by-test}
@@ -117,7 +117,7 @@ stored-range r offset value code h =
     either P (eqb offset 0x14)
     (record { clock = h .clock; active = h .active; id = omega arith; events = h .events; switches = h .switches; delays = h .delays })
     (either P (ltb offset 0x20) h
-    (either P (ltb offset 0x2c)
+    (either P (ltb offset 0x2e)
     (record { clock = h .clock; active = h .active; id = h .id; events = simp length-set (h .events); switches = h .switches; delays = h .delays })
     (either P (ltb offset 0x30) h
     (either P (ltb offset 0x40)
@@ -222,15 +222,19 @@ module _ (m : ℕ) where
   unfolding resumedIf
   resumed-if-range on c pause delay h = either (ChannelInRange m) on (with-sequencer c _ h) h
 
+  tagged-if-range : (on : Bool) (c : Channel) → ChannelInRange m c → ChannelInRange m (taggedIf on c)
+  unfolding taggedIf
+  tagged-if-range on c h = either (ChannelInRange m) on (with-sequencer c _ h) h
+
   pub event-range : (c : Channel) (user code : ℕ) → ChannelInRange m c → ChannelInRange m (eventOf c user code)
   unfolding eventOf resumedOn
   event-range c user code h =
-      resumed-if-range _ _ _ _ (resumed-if-range _ _ _ _ (resumed-if-range _ _ _ _ (resumed-if-range _ _ _ _
-      (started-if-range _ _ _ (ended-if-range _ c h)))))
+      tagged-if-range _ _ (resumed-if-range _ _ _ _ (resumed-if-range _ _ _ _ (resumed-if-range _ _ _ _ (resumed-if-range _ _ _ _
+      (started-if-range _ _ _ (ended-if-range _ c h))))))
 
   pub command-range : (c : Channel) (value : ℕ) → ChannelInRange m c → ChannelInRange m (commanded c value)
   unfolding commanded
-  command-range c value h = resumed-if-range _ _ _ _ (started-if-range _ _ _ (ended-if-range _ c h))
+  command-range c value h = tagged-if-range _ _ (resumed-if-range _ _ _ _ (started-if-range _ _ _ (ended-if-range _ c h)))
 
   pub user-range : (c : Channel) → ChannelInRange m c → ChannelInRange m (userChanged c)
   unfolding userChanged

@@ -16,7 +16,7 @@ use Rattle.sequencer.specs.declared.Transmission.the-variants as transmission
 use Rattle.sequencer.specs.Playing.{isIdle, nothingSent, counted, shortfall, missingWith, withMissing, answered, ticked}
 use Rattle.sequencer.specs.Playing as seq
 use Rattle.sequencer.specs.Runs.{countAfter, missingAfter}
-use Rattle.sequencer.proofs.Moves.{counts}
+use Rattle.sequencer.proofs.Moves.{sends}
 use Rattle.readback.specs.declared.Disposition.{Disposition}
 use Rattle.readback.specs.declared.Disposition.the-variants as disposition
 use Rattle.readback.specs.Storing.{dispositionOf, capacity}
@@ -98,7 +98,7 @@ module _ {id : ℕ} {due takes : Bool} where
       subst (λ (x : Sequencer). Steps n id (c .sequencer) a due takes false false false false x) (sym e) (kept-steps n c a (c .sequencer) h (keeps-all (c .sequencer)))
 
   -- disarmed, the user changed, or reset: idle, with nothing sent
-  pub idle-steps : (n : ℕ) (s : Sequencer) (armed again : Bool)
+  pub idle-steps : (n : ℕ) (s : Sequencer) (armed again tag : Bool)
       → Steps n id s ans.done due takes false again (not again) false
       (record {
         armed = armed;
@@ -110,8 +110,9 @@ module _ {id : ℕ} {due takes : Bool} where
         last = nothingSent;
         count = cond again 0 (s .count);
         missing = cond again 0 (s .missing);
+        tag = tag;
       })
-  idle-steps n s armed again =
+  idle-steps n s armed again tag =
       record {
         count-step = refl;
         missing-step = sym (ap (λ (b : Bool). cond b 0 (s .missing)) (or-false again));
@@ -183,12 +184,12 @@ pub tick-steps : (n : ℕ) (s : Sequencer) (f : CommandFrames) (takes : Bool) (i
 tick-steps n s f takes id due p some apart =
     let x = ticked s due n p id .transmission in
     let a = plays-ticked s due n p id in
-    let c = counts s due n p id in
+    let c = sends s due n p id in
     let sent = line-sends id f x apart in
     record {
-      count-step = c .0 ∙ count-sent x (s .count) ∙ sym (ap (λ (b : Bool). cond b (counted (s .count)) (s .count)) sent);
+      count-step = c .count ∙ count-sent x (s .count) ∙ sym (ap (λ (b : Bool). cond b (counted (s .count)) (s .count)) sent);
       missing-step =
-          c .1 ∙ missing-sent x (s .last) (s .missing) ∙ sym (ap (λ (b : Bool). cond b (missingWith (s .missing) (shortfall (s .last))) (s .missing)) sent);
+          c .missing ∙ missing-sent x (s .last) (s .missing) ∙ sym (ap (λ (b : Bool). cond b (missingWith (s .missing) (shortfall (s .last))) (s .missing)) sent);
       quiet-step = a .stays-quiet;
       window-step = λ fits. a .window ∙ window-frame id f x (windowOf s) fits ∙ sym (rw (sent, line-unreceived id f x));
       replies-step = λ e. omega (arith, ap (λ (w : Window). w .replies) (a .window), window-few id x (windowOf s) e);

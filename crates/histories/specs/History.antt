@@ -1,8 +1,8 @@
 -- Document 01, 'A channel's life', over what calls ANSWERED. A history: what a channel by itself was called with, in which state, and what it
 -- answered. Laws over histories are stated with these.
 -- Document 02, card 1: which of the frames are command frames, and which replies go to E4–FA, told by calls and answers. Card 2: the Frame ID that a
--- frame carries, read from the frame, and which register a call reads. Of the state before a call only the code of the Group End event, the current
--- user, and what a stored word says of the last send are looked at.
+-- frame carries, read from the frame, and which register a call reads. Card 6: what a call makes of tags (specs/TagChanges). Of the state before a call
+-- only the code of the Group End event, the current user, and what a stored word says of the last send are looked at.
 use Prim.Native.Nat.{ℕ, _+_}
 use mathlib.Core.Bool.{Bool, true, false, cond, not, _&&_, _||_}
 use mathlib.Core.List.{List, [], _∷_}
@@ -19,6 +19,7 @@ use Rattle.channel_core.specs.Answers.{Answer, isRefusal, isFrame, isReceived}
 use Rattle.channel_core.specs.Answers as ans
 use Rattle.channel.specs.OneChannel.{ChannelCall, OneChannel, transition, response}
 use Rattle.channel.specs.OneChannel as call
+use Rattle.histories.specs.TagChanges.{TagChange, leavesTags, armedBy, disarmedBy, idledIf, eventTags, writtenTags}
 
 -- one call: the state before it, the call, and what it answered
 pub record Entry : Type 0 where
@@ -86,31 +87,34 @@ pub record Asks : Type 0 where
   pub reads : ℕ → Bool
   -- what it makes of command frames
   pub commands : CommandChange
+  -- what it makes of tags, where it is no setpoint send
+  pub tags : TagChange
 
 abbrev pub readsNothing : ℕ → Bool
 readsNothing offset = false
 
--- none of these but what it makes of command frames: the call ends no group, resets and idles nothing, brings no word and reads no register
-abbrev pub changing : CommandChange → Asks
-changing f = record { groupEnd = false; reset = false; idle = false; word = []; reads = readsNothing; commands = f }
+-- none of these but what it makes of command frames and tags: the call ends no group, resets and idles nothing, brings no word and reads no register
+abbrev pub changing : CommandChange → TagChange → Asks
+changing f g = record { groupEnd = false; reset = false; idle = false; word = []; reads = readsNothing; commands = f; tags = g }
 
 -- none of these, whatever else it does
 abbrev pub asksNothing : Asks
-asksNothing = changing leavesCommands
+asksNothing = changing leavesCommands leavesTags
 
 -- one of these alone
-abbrev pub groupEndIf : Bool → Asks
-groupEndIf on =
-    record { groupEnd = on; reset = false; idle = false; word = []; reads = readsNothing; commands = λ a f. cond on (cmd.groupEnded f) f }
+abbrev pub groupEndIf : Bool → TagChange → Asks
+groupEndIf on g =
+    record { groupEnd = on; reset = false; idle = false; word = []; reads = readsNothing; commands = λ a f. cond on (cmd.groupEnded f) f; tags = g }
 
-abbrev pub idleIf : Bool → CommandChange → Asks
-idleIf on f = record { groupEnd = false; reset = false; idle = on; word = []; reads = readsNothing; commands = f }
+abbrev pub idleIf : Bool → CommandChange → TagChange → Asks
+idleIf on f g = record { groupEnd = false; reset = false; idle = on; word = []; reads = readsNothing; commands = f; tags = g }
 
 abbrev pub bringing : List ℕ → CommandChange → Asks
-bringing word f = record { groupEnd = false; reset = false; idle = false; word = word; reads = readsNothing; commands = f }
+bringing word f = record { groupEnd = false; reset = false; idle = false; word = word; reads = readsNothing; commands = f; tags = leavesTags }
 
 abbrev pub reading : ℕ → Asks
-reading offset = record { groupEnd = false; reset = false; idle = false; word = []; reads = eqb offset; commands = leavesCommands }
+reading offset =
+    record { groupEnd = false; reset = false; idle = false; word = []; reads = eqb offset; commands = leavesCommands; tags = leavesTags }
 
 abbrev pub asks : OneChannel → ChannelCall → Asks
 asks o (call.writeRegister lent offset value) =
@@ -121,16 +125,19 @@ asks o (call.writeRegister lent offset value) =
       word = [];
       reads = readsNothing;
       commands = writtenBy offset value;
+      tags = writtenTags offset value;
     }
 asks o (call.readRegister offset) = reading offset
 asks o (call.writeSetpoint lent user buffer index word) = asksNothing
-asks o call.arm = asksNothing
-asks o call.disarm = idleIf true (λ a f. cmd.dropped f)
+asks o call.arm = changing leavesCommands armedBy
+asks o call.disarm = idleIf true (λ a f. cmd.dropped f) disarmedBy
 asks o (call.reply lent f) = bringing (replyWord o (read f)) (repliedTo (read f))
 asks o (call.query which one two) = asksNothing
-asks o (call.tick lent) = changing tickedBy
-asks o (call.event lent code) = groupEndIf (triggersOf (o .channel .registers) groupEndEvent code)
-asks o (call.changeUser user) = idleIf (not (eqb user (o .user))) leavesCommands
+asks o (call.tick lent) = changing tickedBy leavesTags
+asks o (call.event lent code) =
+    let ends = triggersOf (o .channel .registers) groupEndEvent code in
+    groupEndIf ends (eventTags ends code)
+asks o (call.changeUser user) = idleIf (not (eqb user (o .user))) leavesCommands (idledIf (not (eqb user (o .user))))
 asks o (call.writeMain lent offset value) = asksNothing
 asks o (call.readMain offset) = asksNothing
 

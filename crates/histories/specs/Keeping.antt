@@ -9,33 +9,42 @@ use Rattle.command_frames.specs.Commanding.{takes}
 use Rattle.channel_core.specs.Answers.{part, partLength}
 use Rattle.channel.specs.OneChannel.{ChannelCall, oneChannel, response, transitions}
 use Rattle.channel.specs.OneChannel as call
-use Rattle.histories.specs.History.{isKept, Told, toldOf, asks, endsGroup, resets}
+use Rattle.histories.specs.History.{isKept, Entry, Told, toldOf, asks, endsGroup, resets}
 
 -- what a call stores: the word of a reply that was answered kept; one lost or unsolicited stores nothing, nor does one that goes to E4–FA
 abbrev pub storedBy : Told → List ℕ
 storedBy t = cond (isKept (t .entry .answer) && not (takes (t .commands))) (asks (t .entry .before) (t .entry .call) .word) []
 
--- the words of the replies kept since the last Group End, reset or opening; and of those kept before that Group End, from the one before it,
+-- something of each reply kept since the last Group End, reset or opening; and of those kept before that Group End, from the one before it,
 -- from a reset or from the opening on. With no Group End since a reset or the opening there are none of the latter.
-pub record Kept : Type 0 where
-  pub current : List ℕ
-  pub retired : List ℕ
+pub record Groups (A : Type 0) : Type 0 where
+  pub current : List A
+  pub retired : List A
 
--- "no readbacks"
-abbrev pub nothingKept : Kept
-nothingKept = record { current = []; retired = [] }
+-- its word
+abbrev pub Kept : Type 0
+Kept = Groups ℕ
 
--- "readback buffers switch, the new one empty"
-abbrev pub switched : Kept → Kept
-switched g = record { current = []; retired = g .current }
+module _ {A : Type 0} where
+  -- "no readbacks"
+  abbrev pub nothingKept : Groups A
+  nothingKept = record { current = []; retired = [] }
 
-abbrev pub keptWith : Kept → List ℕ → Kept
-keptWith g words = record { current = g .current ++ words; retired = g .retired }
+  -- "readback buffers switch, the new one empty"
+  abbrev pub switched : Groups A → Groups A
+  switched g = record { current = []; retired = g .current }
 
--- a Group End, though its event or command may then start the channel again; "Reset D0 returns that channel to its opening state"; a kept reply's
--- word goes after those before it. Nothing else stores a word: the end word is none of them.
+  abbrev pub keptWith : Groups A → List A → Groups A
+  keptWith g more = record { current = g .current ++ more; retired = g .retired }
+
+  -- a Group End, though its event or command may then start the channel again; "Reset D0 returns that channel to its opening state"; what comes of a
+  -- kept reply goes after what was there before it
+  abbrev pub groupsAfter : Groups A → List A → Entry → Groups A
+  groupsAfter g more e = cond (resets e) nothingKept (cond (endsGroup e) (switched g) (keptWith g more))
+
+-- nothing but a kept reply stores a word: the end word is none of them
 abbrev pub keptAfter : Kept → Told → Kept
-keptAfter g t = cond (resets (t .entry)) nothingKept (cond (endsGroup (t .entry)) (switched g) (keptWith g (storedBy t)))
+keptAfter g t = groupsAfter g (storedBy t) (t .entry)
 
 unfoldable pub keptSince : Kept → List Told → Kept
 keptSince g [] = g

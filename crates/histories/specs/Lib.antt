@@ -1,3 +1,4 @@
+pub mod TagChanges
 pub mod History
 pub mod Refusing
 pub mod Counting
@@ -9,3 +10,4 @@ pub mod Statuses
 pub mod Missing
 pub mod Ranges
 pub mod EndWords
+pub mod Tags

@@ -66,7 +66,7 @@ pub record RegistersInRange (r : Registers) : Type 0 where
   pub clock : r .clock ≤ 3
   pub active : length (r .active) ≡ 16
   pub id : r .id < 256
-  pub events : length (r .events) ≡ 6
+  pub events : length (r .events) ≡ 7
   pub switches : length (r .switches) ≡ 8
   pub delays : length (r .delays) ≡ 40
 

@@ -24,7 +24,7 @@ use Rattle.board_state.specs.Parts.{own}
 use Rattle.board.specs.Answers.{one}
 use Rattle.board.specs.Calls.{openAnswer}
 use Rattle.board.specs.Worlds.{World}
-use Rattle.isolation.specs.Calls.{query, first, second, Item, answer, ownBuffers, step, Allowed, worldAfter, opening}
+use Rattle.isolation.specs.Calls.{query, lentFrom, queryLending, first, second, Item, answer, ownBuffers, step, Allowed, worldAfter, opening}
 use Rattle.isolation.specs.Feeding.{feeds, fed, view}
 use Rattle.isolation.specs.Isolation.{oneChannelAt, EndWord, EndWordStands, EndWordStays, groupEndOf, groupEndTo, GroupEndAccepted}
 use Rattle.isolation.proofs.Parts.{Number, own-length}
@@ -43,7 +43,7 @@ allowed-append : (w : World) (xs ys : List Item) → Allowed w (xs ++ ys) → Al
 allowed-append w [] ys a = (tt, a)
 allowed-append w (i ∷ xs) ys a = let b = allowed-append (step w i) xs ys (a .1) in ((a .0, b .0), b .1)
 
-good-after : (w : World) (xs : List Item) → Good w → Allowed w xs → Good (worldAfter w xs)
+pub good-after : (w : World) (xs : List Item) → Good w → Allowed w xs → Good (worldAfter w xs)
 good-after w [] g a = g
 good-after w (i ∷ xs) g a = good-after (step w i) xs (good-step w g i (a .0)) (a .1)
 
@@ -77,15 +77,15 @@ buffers-long : (w : World) (c : ℕ) → Number c → Good w
 buffers-long w c h g =
     halves (w .board .m) (own (w .readbacks) (w .board .m * 2) c) (own-length (w .readbacks) (w .board .m * 2) (g .reads ∙ parted-reads (w .board)) c h)
 
--- what the twin of retired readbacks answers, lent them
-counted-alone : (w : World) (c m : ℕ) → Number c → Good w → w .board .m ≡ m
-    → answer (w .board) (query c to.retiredLength) (ownBuffers w c) ≡ one (response (view c w) (to.query to.retiredLength m m))
+-- what a query answers that is lent them
+pub query-alone : (w : World) (c m : ℕ) → Number c → Good w → w .board .m ≡ m → (which : to.Query) → ownBuffers w c ≡ lentFrom w (queryLending c which)
+    → answer (w .board) (query c which) (ownBuffers w c) ≡ one (response (view c w) (to.query which m m))
 unfolding answer
-counted-alone w c m h g d =
+query-alone w c m h g d which lent =
     let l = buffers-long w c h g in
     ap one
-    (observe-query w c h to.retiredLength (ownBuffers w c) (inr refl)
-    ∙ ap₂ (λ (x y : ℕ). response (view c w) (to.query to.retiredLength x y)) (l .0 ∙ d) (l .1 ∙ d))
+    (observe-query w c h which (ownBuffers w c) (inr lent)
+    ∙ ap₂ (λ (x y : ℕ). response (view c w) (to.query which x y)) (l .0 ∙ d) (l .1 ∙ d))
 
 -- a channel's word in the memory, by the channel alone
 word-alone : (w : World) (o : OneChannel) (c m : ℕ) (b : Bool) (i : ℕ) → view c w ≡ o → o .m ≡ m → i < m
@@ -105,7 +105,7 @@ found-alone c m h ended now x y g e f d d' q =
       active = register-shown c h ended 0x0e (omega arith) ∙ ap (λ (z : OneChannel). response z (to.readRegister 0x0e)) e ∙ q .active .answers;
       count = q .count;
       counted =
-          counted-alone ended c m h g (ap (λ (z : OneChannel). z .m) e ∙ d)
+          query-alone ended c m h g (ap (λ (z : OneChannel). z .m) e ∙ d) to.retiredLength refl
           ∙ ap one (ap (λ (z : OneChannel). response z (to.query to.retiredLength m m)) e ∙ q .counted);
       within = q .within;
       word =

@@ -15,3 +15,4 @@ pub mod Isolation
 pub mod Shown
 pub mod Defaults
 pub mod EndWords
+pub mod Marks

@@ -40,6 +40,8 @@ module _ (c : ℕ) (h : Number c) (w : World) where
         switches = refl;
         waiting = refl;
         receiving = refl;
+        tag = refl;
+        tagged = refl;
         interruptStatus = refl;
         pollingStatus = refl;
         mainInterrupt = status-bit (w .board) false c h;

@@ -1,9 +1,9 @@
 -- Document 01, 'What holds it to this': demand 3, "each channel behaves as it would alone". The claim, and what stands beside it.
 -- Proofs: Isolation and FedTheSame in proofs/Isolation.antt, IsolationShown, MissingCounted and NotVacuous in Shown, DefaultsUnused and
--- OneFrameATick in Defaults, EndWordStays, EndWordStands and GroupEndAccepted in EndWords, the others in Refused and Others.
+-- OneFrameATick in Defaults, EndWordStays, EndWordStands and GroupEndAccepted in EndWords, MarksRetired in Marks, the others in Refused and Others.
 use Prim.Native.Nat.{ℕ, _+_, _-_, _*_, _<_, _≤_}
 use mathlib.Core.Path.{_≡_}
-use mathlib.Core.Bool.{true, false, not}
+use mathlib.Core.Bool.{Bool, true, false, not}
 use mathlib.Core.List.{List, [], _∷_, _++_}
 use lib.ListN.{length, getD}
 use Rattle.status.specs.Bits.{bitAt, bitOf}
@@ -18,6 +18,7 @@ use Rattle.histories.specs.History.{entry, history, endsGroup}
 use Rattle.histories.specs.Ranges.{InRange}
 use Rattle.histories.specs.Missing.{shortfallsOver, missingCount}
 use Rattle.histories.specs.EndWords.{secondActiveOver, groupRetiredOver, StaysRetired}
+use Rattle.histories.specs.Tags.{marksIn, marksOver}
 use Rattle.board_state.specs.declared.Board.{Board}
 use Rattle.board_state.specs.State.{channelAt}
 use Rattle.board_state.specs.Main.{mainStatus}
@@ -58,6 +59,9 @@ pub record Shows (n m c : ℕ) (w : World) (o : OneChannel) : Type 0 where
   -- the command frame that waits, and whether replies go to E4–FA, which no read shows
   pub waiting : channelAt (w .board) c .commands .waiting ≡ o .channel .commands .waiting
   pub receiving : channelAt (w .board) c .commands .receiving ≡ o .channel .commands .receiving
+  -- the tag not yet used, and whether the last send used one, which no read shows
+  pub tag : channelAt (w .board) c .sequencer .tag ≡ o .channel .sequencer .tag
+  pub tagged : channelAt (w .board) c .sequencer .last .tagged ≡ o .channel .sequencer .last .tagged
   -- both statuses
   pub interruptStatus : channelAt (w .board) c .status .interrupt .bits ≡ o .channel .status .interrupt .bits
   pub pollingStatus : channelAt (w .board) c .status .polling .bits ≡ o .channel .status .polling .bits
@@ -175,6 +179,23 @@ EndWordStands =
     → (xs : List Item) → Allowed (opening n m s r) xs
     → groupRetiredOver n m (own s (n * 16) c) (own r (m * 2) c) (fed c xs) ≡ true
     → EndWord c m (worldAfter (opening n m s r) xs) (worldAfter (opening n m s r) xs)
+
+-- document 02, card 6: D25 in the words that the board answers. In the world `w` retired readbacks, lent the channel's buffers, answers `words`, of which
+-- D25 is set as `marks` say, and its twin how many they are
+pub record MarkedPart (c : ℕ) (w : World) (marks : List Bool) : Type 0 where
+  pub words : List ℕ
+  pub answers : answer (w .board) (query c to.retired) (ownBuffers w c) ≡ one (ans.part words)
+  pub marked : marksIn words ≡ marks
+  pub counted : answer (w .board) (query c to.retiredLength) (ownBuffers w c) ≡ one (ans.partLength (length marks))
+
+-- from an opening, over any allowed list: the marks are what the answers to the calls fed to c tell
+abbrev pub MarksRetired : Type 0
+MarksRetired =
+    (n m : ℕ) (s r : List ℕ)
+    → openAnswer n m (length s) (length r) ≡ ans.done
+    → (c : ℕ) → 1 ≤ c → c ≤ 4
+    → (xs : List Item) → Allowed (opening n m s r) xs
+    → MarkedPart c (worldAfter (opening n m s r) xs) (marksOver n m (own s (n * 16) c) (own r (m * 2) c) (fed c xs) .retired)
 
 -- Commands with D2 for channel c, lent the memory of this world; and what c is fed of it
 abbrev pub groupEndOf : ℕ → World → Item

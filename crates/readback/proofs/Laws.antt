@@ -1,16 +1,16 @@
--- A full buffer takes no readback, and leaves the place for its end word; no stored word is one. Assumes nothing.
-use Prim.Native.Nat.{ℕ, _+_, _-_, _*_, _%_, _<_, _≤_}
-use mathlib.Core.Path.{_≡_}
+-- A full buffer takes no readback, and leaves the place for its end word; D25 of a stored word, and which one is an end word. Assumes nothing.
+use Prim.Native.Nat.{ℕ, _*_, _/_, _%_, _^_, _<_, _≤_}
+use mathlib.Core.Path.{_≡_, refl, sym, ap, _∙_}
 use mathlib.Core.Bool.{Bool, true, false}
 use mathlib.Core.List.{List}
 use native.Mathlib.Omega.{arith}
 use lib.ListN.{length, getD}
 use lib.Seq.{getD-set-same}
-use borrow.Author.Tests.{le-ltb}
-use Rattle.status.specs.Bits.{bitOf}
+use borrow.Author.Tests.{le-ltb, eq-eqb, ne-eqb}
+use Rattle.status.specs.Bits.{bitAt, bitOf}
 use Rattle.sequencer.specs.declared.LastSend.{LastSend}
 use Rattle.readback.specs.declared.Readbacks.{Readbacks}
-use Rattle.readback.specs.Storing.{capacity, storedWord, placeOf, endWord, endWords, keptWords}
+use Rattle.readback.specs.Storing.{capacity, storedWord, placeOf, endWord, LikeEnd, endWords, keptWords}
 
 pub full-no-readback : (r : Readbacks) (s : List ℕ) (second : Bool) (m word : ℕ) → capacity m ≤ r .stored → keptWords r s second m word ≡ s
 full-no-readback r s second m word h = simp (le-ltb _ _ h)
@@ -21,14 +21,50 @@ pub end-after-stored : (r : Readbacks) (s : List ℕ) (second : Bool) (m : ℕ) 
 end-after-stored r s true m h l k = getD-set-same s _ endWord 0 (omega arith)
 end-after-stored r s false m h l k = getD-set-same s _ endWord 0 (omega arith)
 
--- D25 of a stored word is 0, so it is not the end word
-pub stored-no-end : (l : LastSend) (user : ℕ) (wrong : Bool) (id word : ℕ) → id < 256 → word < 65536 → storedWord l user wrong id word ≡ endWord → ⊥
-unfolding storedWord
-stored-no-end l user wrong id word a b = go (l .first) (l .paused) (l .last) wrong
-  where
-    go : (first paused last wrong : Bool)
-        → bitOf first * 0x80000000 + bitOf paused * 0x40000000 + bitOf last * 0x20000000
-        + ((user - 1) % 8 * 0x4000000 + bitOf wrong * 0x1000000) + id * 0x10000 + word
-        ≡ endWord → ⊥
-    go first paused last true e = absurd (omega arith)
-    go first paused last false e = absurd (omega arith)
+bit-at-most : (b : Bool) → bitOf b ≤ 1
+bit-at-most true = omega arith
+bit-at-most false = omega arith
+
+bit-unset : (b : Bool) → bitOf b ≡ 0 → b ≡ false
+bit-unset true e = absurd (omega arith)
+bit-unset false e = refl
+
+bit-set : (b : Bool) → bitOf b ≡ 1 → b ≡ true
+bit-set true e = refl
+bit-set false e = absurd (omega arith)
+
+bit-back : (b : Bool) (w k : ℕ) → w / 2 ^ k % 2 ≡ bitOf b → bitAt w k ≡ b
+bit-back true w k e = eq-eqb (w / 2 ^ k % 2) 1 e
+bit-back false w k e = ne-eqb (w / 2 ^ k % 2) 1 (λ f. omega (arith, f, e))
+
+module _ (l : LastSend) (user : ℕ) (wrong : Bool) (id word : ℕ) (short : id < 256) (narrow : word < 65536) where
+  -- D25 of a stored word is set exactly where its send used a tag
+  pub stored-tag : bitAt (storedWord l user wrong id word) 25 ≡ l .tagged
+  unfolding storedWord
+  stored-tag = bit-back (l .tagged) (storedWord l user wrong id word) 25 (omega (arith, bit-at-most (l .tagged), bit-at-most wrong))
+
+  -- a stored word is the end word exactly where it is tagged and all else in it is 0
+  pub stored-end : (storedWord l user wrong id word ≡ endWord → LikeEnd l user wrong id word)
+      × (LikeEnd l user wrong id word → storedWord l user wrong id word ≡ endWord)
+  unfolding storedWord
+  stored-end = (only, back)
+    where
+      only : storedWord l user wrong id word ≡ endWord → LikeEnd l user wrong id word
+      only e =
+          record {
+            tagged = bit-set (l .tagged) (omega (arith, bit-at-most (l .tagged), bit-at-most wrong));
+            not-first = bit-unset (l .first) (omega arith);
+            not-paused = bit-unset (l .paused) (omega arith);
+            not-last = bit-unset (l .last) (omega arith);
+            first-user = omega (arith, bit-at-most (l .tagged), bit-at-most wrong);
+            right = bit-unset wrong (omega (arith, bit-at-most (l .tagged), bit-at-most wrong));
+            id-0 = omega (arith, bit-at-most (l .tagged), bit-at-most wrong);
+            data-0 = omega (arith, bit-at-most (l .tagged), bit-at-most wrong);
+          }
+
+      back : LikeEnd l user wrong id word → storedWord l user wrong id word ≡ endWord
+      back h = rw (h .tagged, h .not-first, h .not-paused, h .not-last, h .first-user, h .right, h .id-0, h .data-0)
+
+  -- so a word that is not tagged is none
+  pub stored-no-end : l .tagged ≡ false → storedWord l user wrong id word ≡ endWord → ⊥
+  stored-no-end none e = let z : bitOf true ≡ bitOf false = ap bitOf (sym (stored-end .0 e .tagged) ∙ none) in omega arith

@@ -30,7 +30,9 @@ pub fn stored_word(last: LastSend, user: u8, wrong: bool, id: u8, data: u16) -> 
     let flags = weigh(last.first, 0x8000_0000)
         + weigh(last.paused, 0x4000_0000)
         + weigh(last.last, 0x2000_0000);
-    let fields = registers::zero_based(user) as u32 % 8 * 0x400_0000 + weigh(wrong, 0x100_0000);
+    let fields = registers::zero_based(user) as u32 % 8 * 0x400_0000
+        + weigh(last.tagged, 0x200_0000)
+        + weigh(wrong, 0x100_0000);
     flags + fields + id as u32 * 0x1_0000 + data as u32
 }
 

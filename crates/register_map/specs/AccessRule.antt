@@ -1,5 +1,5 @@
 -- Document 01, 'Register map': the access of each offset. What is in the map, what of it is read-only, what write-only. Document 02, card 1: E0–FE;
--- card 2: 0C.
+-- card 2: 0C; card 6: 2C.
 use Prim.Native.Nat.{ℕ, _+_, _-_, _*_, _%_}
 use mathlib.Core.Bool.{Bool, false, cond, _&&_, _||_}
 use mathlib.Core.List.{List, [], _∷_}
@@ -32,11 +32,11 @@ accessBy map readOnly writeOnly offset =
     access.None
 
 -- "00 Interrupt Enable, .." to "resume 1–4 delays", in the order of the paper; "Registers E0–FE of each channel join the map";
--- "Read-only register 0C"
+-- "Read-only register 0C"; "Register 2C joins the map"
 abbrev pub channelMap : List Span
 channelMap =
     only 0x00 ∷ only 0x02 ∷ only 0x04 ∷ only 0x06 ∷ only 0x08 ∷ only 0x0A ∷ only 0x0C ∷ only 0x0E ∷ only 0x10 ∷ only 0x12 ∷
-    only 0x14 ∷ only 0x20 ∷ 0x22 to 0x28 ∷ only 0x2A ∷ 0x30 to 0x3E ∷ 0x40 to 0x5E ∷
+    only 0x14 ∷ only 0x20 ∷ 0x22 to 0x28 ∷ only 0x2A ∷ only 0x2C ∷ 0x30 to 0x3E ∷ 0x40 to 0x5E ∷
     0x60 to 0x7E ∷ 0x80 to 0x9E ∷ 0xA0 to 0xBE ∷ 0xC0 to 0xDE ∷ 0xE0 to 0xFE ∷ []
 
 -- "Read-only: 02, 04, 0E, 10, 12."; "E4–FA and FE are read-only."; "Read-only register 0C"

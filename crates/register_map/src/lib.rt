@@ -39,7 +39,7 @@ const ACCESS: [Access; 133] = [
     Access::ReadWrite, // 26 Resume 3 Event
     Access::ReadWrite, // 28 Resume 4 Event
     Access::ReadWrite, // 2A Group End Event
-    Access::None, // 2C
+    Access::ReadWrite, // 2C Tag Event
     Access::None, // 2E
     Access::WriteOnly, // 30 Switch, user 1
     Access::WriteOnly, // 32 Switch, user 2

@@ -23,8 +23,8 @@ pub id-back : (r : Registers) (v : ℕ) → loaded (stored r 0x14 v) 0x14 ≡ v 
 unfolding stored loaded
 id-back r v = refl
 
--- an event register, 20 to 2A, keeps 9 bits
-pub event-back : (r : Registers) (o v : ℕ) → length (r .events) ≡ 6 → 0x20 ≤ o → o < 0x2c → loaded (stored r o v) o ≡ v % 512
+-- an event register, 20 to 2C, keeps 9 bits
+pub event-back : (r : Registers) (o v : ℕ) → length (r .events) ≡ 7 → 0x20 ≤ o → o < 0x2e → loaded (stored r o v) o ≡ v % 512
 event-back r o v l low high =
     let h : (o - 0x20) / 2 < length (r .events) = omega arith in
     rw (event-stored, event-loaded, getD-set-same)

@@ -9,10 +9,10 @@ use Rattle.registers.specs.Map.{stored, loaded, delayWritten, delayShown
 use Rattle.registers.specs.declared.Registers.{Registers}
 
 -- an event register's offset
-module _ (r : Registers) (o : ℕ) (low : 0x20 ≤ o) (high : o < 0x2c) where
+module _ (r : Registers) (o : ℕ) (low : 0x20 ≤ o) (high : o < 0x2e) where
   pub event-stored : (v : ℕ) → stored r o v ≡ withEvents r (set (r .events) ((o - 0x20) / 2) (v % 512))
   unfolding stored
-  event-stored v = simp (ne-eqb o 0x0a (omega arith), ne-eqb o 0x14 (omega arith), le-ltb o 0x20 low, lt-ltb o 0x2c high)
+  event-stored v = simp (ne-eqb o 0x0a (omega arith), ne-eqb o 0x14 (omega arith), le-ltb o 0x20 low, lt-ltb o 0x2e high)
 
   pub event-loaded : loaded r o ≡ getD (r .events) ((o - 0x20) / 2) 0
   unfolding loaded
@@ -24,7 +24,7 @@ module _ (r : Registers) (o : ℕ) (low : 0x20 ≤ o) (high : o < 0x2c) where
         ne-eqb o 0x12 (omega arith),
         ne-eqb o 0x14 (omega arith),
         le-ltb o 0x20 low,
-        lt-ltb o 0x2c high,
+        lt-ltb o 0x2e high,
       )
 
 -- a delay's offset
@@ -37,7 +37,7 @@ module _ (r : Registers) (o : ℕ) (low : 0x40 ≤ o) (high : o < 0xe0) where
         ne-eqb o 0x0a (omega arith),
         ne-eqb o 0x14 (omega arith),
         le-ltb o 0x20 (omega arith),
-        le-ltb o 0x2c (omega arith),
+        le-ltb o 0x2e (omega arith),
         le-ltb o 0x30 (omega arith),
         le-ltb o 0x40 low,
         lt-ltb o 0xe0 high,
@@ -53,7 +53,7 @@ module _ (r : Registers) (o : ℕ) (low : 0x40 ≤ o) (high : o < 0xe0) where
         ne-eqb o 0x12 (omega arith),
         ne-eqb o 0x14 (omega arith),
         le-ltb o 0x20 (omega arith),
-        le-ltb o 0x2c (omega arith),
+        le-ltb o 0x2e (omega arith),
         le-ltb o 0x40 low,
         lt-ltb o 0xe0 high,
       )

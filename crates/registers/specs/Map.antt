@@ -1,4 +1,4 @@
--- Document 01, 'Register map': what a channel's registers keep, and what they show.
+-- Document 01, 'Register map': what a channel's registers keep, and what they show. Document 02, card 6: 2C.
 use Prim.Native.Nat.{ℕ, _+_, _-_, _*_, _/_, _%_}
 use mathlib.Core.Bool.{Bool, false, cond, not, _&&_}
 use mathlib.Core.List.{List, [], _∷_}
@@ -16,7 +16,7 @@ opened =
       active = replicate 16 false;
       shown = 0;
       id = 0;
-      events = replicate 6 0;
+      events = replicate 7 0;
       switches = replicate 8 false;
       delays = replicate 40 0;
     }
@@ -29,12 +29,16 @@ periodOf clock = cond (eqb clock 0) 10000 (cond (eqb clock 1) 1000 (cond (eqb cl
 abbrev pub matches : ℕ → ℕ → Bool
 matches register code = bitAt register 8 && eqb (register % 256) code
 
--- "20 Start Event, 22–28 Resume 1–4 Events, 2A Group End Event": 0, 1 to 4, and 5
+-- "20 Start Event, 22–28 Resume 1–4 Events, 2A Group End Event": 0, 1 to 4, and 5; the Tag event of card 6: "Register 2C joins the map with D8 active,
+-- D7–D0 code.": 6
 abbrev pub startEvent : ℕ
 startEvent = 0
 
 abbrev pub groupEndEvent : ℕ
 groupEndEvent = 5
+
+abbrev pub tagEvent : ℕ
+tagEvent = 6
 
 abbrev pub triggersOf : Registers → ℕ → ℕ → Bool
 triggersOf r event code = matches (getD (r .events) event 0) code
@@ -58,7 +62,7 @@ delayWritten offset old value =
 abbrev pub delayShown : ℕ → ℕ → ℕ
 delayShown offset delay = cond (eqb (offset % 4) 0) (delay / 65536 % 256) (delay % 65536)
 
--- what a write at an offset keeps: "0A Clock", "14 Frame ID (8 bits)", "20 Start Event, 22–28 Resume 1–4 Events, 2A Group End Event" (9 bits),
+-- what a write at an offset keeps: "0A Clock", "14 Frame ID (8 bits)", "20 Start Event, 22–28 Resume 1–4 Events, 2A Group End Event", 2C (9 bits),
 -- "30–3E Switch for users 1–8 (D0; writing 0 withdraws it)", "40–5E start delays, 60–7E, 80–9E, A0–BE, C0–DE resume 1–4 delays".
 -- "Other bits written are dropped."
 unfoldable pub stored : Registers → ℕ → ℕ → Registers
@@ -66,7 +70,7 @@ stored r offset value =
     cond (eqb offset 0x0a) (withClock r value)
     (cond (eqb offset 0x14) (withId r (value % 256))
     (cond (ltb offset 0x20) r
-    (cond (ltb offset 0x2c) (withEvents r (set (r .events) ((offset - 0x20) / 2) (value % 512)))
+    (cond (ltb offset 0x2e) (withEvents r (set (r .events) ((offset - 0x20) / 2) (value % 512)))
     (cond (ltb offset 0x30) r
     (cond (ltb offset 0x40) (withSwitches r (set (r .switches) ((offset - 0x30) / 2) (bitAt value 0)))
     (cond (ltb offset 0xe0)
@@ -84,7 +88,7 @@ loaded r offset =
     (cond (eqb offset 0x12) (r .shown % 65536)
     (cond (eqb offset 0x14) (r .id)
     (cond (ltb offset 0x20) 0
-    (cond (ltb offset 0x2c) (getD (r .events) ((offset - 0x20) / 2) 0)
+    (cond (ltb offset 0x2e) (getD (r .events) ((offset - 0x20) / 2) 0)
     (cond (ltb offset 0x40) 0
     (cond (ltb offset 0xe0) (delayShown offset (getD (r .delays) ((offset - 0x40) / 4) 0)) 0))))))))
 

@@ -11,6 +11,8 @@ pub const START_EVENT: u8 = 0;
 
 pub const GROUP_END_EVENT: u8 = 5;
 
+pub const TAG_EVENT: u8 = 6;
+
 pub struct Registers {
     // 0A
     pub clock: u16,
@@ -20,8 +22,8 @@ pub struct Registers {
     pub shown: u32,
     // 14
     pub id: u8,
-    // 20-2A: Start, Resume 1-4, Group End
-    pub events: [u16; 6],
+    // 20-2C: Start, Resume 1-4, Group End, Tag
+    pub events: [u16; 7],
     // 30-3E, by user
     pub switches: [bool; 8],
     // 40-DE: eight users' start delays, then resume 1's, and so on to resume 4's
@@ -115,7 +117,7 @@ impl Registers {
             active: [false; 16],
             shown: 0,
             id: 0,
-            events: [0; 6],
+            events: [0; 7],
             switches: [false; 8],
             delays: [0; 40],
         }
@@ -127,7 +129,7 @@ impl Registers {
     {
         let at = event as usize;
         let events = self.events;
-        if at < 6 {
+        if at < 7 {
             return holds(events[at], code);
         }
         false
@@ -177,7 +179,7 @@ impl Registers {
         if offset < 0x20 {
             return next;
         }
-        if offset < 0x2c {
+        if offset < 0x2e {
             let place = (offset as usize - 0x20) / 2;
             next.events[place] = value % 512;
             return next;
@@ -222,7 +224,7 @@ impl Registers {
         if offset < 0x20 {
             return 0;
         }
-        if offset < 0x2c {
+        if offset < 0x2e {
             let place = (offset as usize - 0x20) / 2;
             let events = self.events;
             return events[place];

@@ -1,4 +1,4 @@
--- Laws of one call, for any state: which resume is taken, which word is last, and what the two counts take. Assumes nothing.
+-- Laws of one call, for any state: which resume is taken, which word is last, what the two counts take, and what sets, uses and drops a tag. Assumes nothing.
 use Prim.Native.Nat.{ℕ, _+_, _-_, _≤_, min}
 use mathlib.Core.Path.{_≡_, refl, ap, _∙_}
 use mathlib.Core.Bool.{Bool, true, false, cond, _&&_}
@@ -7,8 +7,8 @@ use lib.Dec.{leb, ltb, eqb}
 use borrow.Author.Tests.{eq-eqb, ne-eqb, ltb-true, ltb-false}
 use Rattle.status.specs.Bits.{bitAt}
 use Rattle.sequencer.specs.Words.{kindOf}
-use Rattle.sequencer.specs.Playing.{idled, armed, disarmed, started, loadedResume, resumedAt, resumed, answered, groupEnded, shortfall, sentNext, sentAs, repeated, quiet, withLeft, withResume, advancing, repeating, resuming, tickedAt, ticked}
-use Rattle.sequencer.specs.Runs.{countAfter, missingAfter, asNumber}
+use Rattle.sequencer.specs.Playing.{opened, idled, armed, disarmed, started, loadedResume, resumedAt, resumed, answered, groupEnded, tagged, withTag, shortfall, sentNext, sentAs, repeated, quiet, withLeft, withResume, advancing, repeating, resuming, tickedAt, ticked}
+use Rattle.sequencer.specs.Runs.{countAfter, missingAfter, tagAfter, usedAfter, asNumber}
 use Rattle.sequencer.specs.declared.Kind.the-variants as kind
 use Rattle.sequencer.specs.declared.Stage.{Stage}
 use Rattle.sequencer.specs.declared.Stage.the-variants as stage
@@ -52,65 +52,81 @@ last-bit w false h = rw h
 pub last-place : (w : ℕ) → kindOf w true ≡ kind.Last
 last-place w = refl
 
--- both counts after this tick, from s
-abbrev Counts : Sequencer → Ticked → Type 0
-Counts s t =
-    (t .sequencer .count ≡ countAfter (t .transmission) (s .count))
-    × (t .sequencer .missing ≡ missingAfter (t .transmission) (s .last) (s .missing))
+-- this tick, from s: both counts, the tag not yet used, whether the last send used one, and that the channel stays armed or not
+pub record Sends (s : Sequencer) (t : Ticked) : Type 0 where
+  pub count : t .sequencer .count ≡ countAfter (t .transmission) (s .count)
+  pub missing : t .sequencer .missing ≡ missingAfter (t .transmission) (s .last) (s .missing)
+  pub tag : t .sequencer .tag ≡ tagAfter (t .transmission) (s .tag)
+  pub used : t .sequencer .last .tagged ≡ usedAfter (t .transmission) (s .tag) (s .last .tagged)
+  pub armed : t .sequencer .armed ≡ s .armed
 
-counts-if : (s : Sequencer) (e : Bool) (a b : Ticked) → Counts s a → Counts s b → Counts s (cond e a b)
-counts-if s true a b h k = h
-counts-if s false a b h k = k
+sends-if : (s : Sequencer) (e : Bool) (a b : Ticked) → Sends s a → Sends s b → Sends s (cond e a b)
+sends-if s true a b h k = h
+sends-if s false a b h k = k
 
-counts-sent : (s : Sequencer) (due n p id : ℕ) → Counts s (sentNext s due n p id)
+-- nothing is transmitted, and only a countdown moves
+sends-left : (s : Sequencer) (left : ℕ) → Sends s (quiet (withLeft s left))
+sends-left s left = record { count = refl; missing = refl; tag = refl; used = refl; armed = refl }
+
+sends-next : (s : Sequencer) (due n p id : ℕ) → Sends s (sentNext s due n p id)
 unfolding sentNext sentAs
-counts-sent s due n p id = (refl, refl)
+sends-next s due n p id = record { count = refl; missing = refl; tag = refl; used = refl; armed = refl }
 
-counts-advancing : (s : Sequencer) (due n p id : ℕ) → Counts s (advancing s due n p id)
+sends-advancing : (s : Sequencer) (due n p id : ℕ) → Sends s (advancing s due n p id)
 unfolding advancing
-counts-advancing s due n p id =
-    counts-if s (leb (s .left) 1) (sentNext s due n p id) (quiet (withLeft s (s .left - 1))) (counts-sent s due n p id) (refl, refl)
+sends-advancing s due n p id = sends-if s (leb (s .left) 1) (sentNext s due n p id) _ (sends-next s due n p id) (sends-left s (s .left - 1))
 
-counts-repeating : (s : Sequencer) (p id : ℕ) → Counts s (repeating s p id)
+sends-repeating : (s : Sequencer) (p id : ℕ) → Sends s (repeating s p id)
 unfolding repeating repeated
-counts-repeating s p id = counts-if s (leb (s .left) 1) (repeated s p id) (quiet (withLeft s (s .left - 1))) (refl, refl) (refl, refl)
+sends-repeating s p id =
+    sends-if s (leb (s .left) 1) (repeated s p id) _ (record { count = refl; missing = refl; tag = refl; used = refl; armed = refl })
+    (sends-left s (s .left - 1))
 
-counts-resuming : (s : Sequencer) (due n p id : ℕ) → Counts s (resuming s due n p id)
+sends-resuming : (s : Sequencer) (due n p id : ℕ) → Sends s (resuming s due n p id)
 unfolding resuming
-counts-resuming s due n p id =
+sends-resuming s due n p id =
     let t = withResume s (s .resume - 1) in
-    counts-if s (leb (s .resume) 1) (sentNext s due n p id) (cond (leb (s .resume) 10) (quiet t) (repeating t p id))
-    (counts-sent s due n p id)
-    (counts-if s (leb (s .resume) 10) (quiet t) (repeating t p id) (refl, refl) (counts-repeating t p id))
+    let r = sends-repeating t p id in
+    sends-if s (leb (s .resume) 1) (sentNext s due n p id) (cond (leb (s .resume) 10) (quiet t) (repeating t p id))
+    (sends-next s due n p id)
+    (sends-if s (leb (s .resume) 10) (quiet t) (repeating t p id)
+    (record { count = refl; missing = refl; tag = refl; used = refl; armed = refl })
+    (record { count = r .count; missing = r .missing; tag = r .tag; used = r .used; armed = r .armed }))
 
-counts-at : (g : Stage) (s : Sequencer) (due n p id : ℕ) → Counts s (tickedAt g s due n p id)
-counts-at stage.Idle s due n p id = (refl, refl)
-counts-at stage.Starting s due n p id = counts-advancing s due n p id
-counts-at stage.Running s due n p id = counts-advancing s due n p id
-counts-at (stage.Paused k) s due n p id = counts-repeating s p id
-counts-at stage.Resuming s due n p id = counts-resuming s due n p id
-counts-at stage.Ended s due n p id = counts-repeating s p id
+sends-at : (g : Stage) (s : Sequencer) (due n p id : ℕ) → Sends s (tickedAt g s due n p id)
+sends-at stage.Idle s due n p id = record { count = refl; missing = refl; tag = refl; used = refl; armed = refl }
+sends-at stage.Starting s due n p id = sends-advancing s due n p id
+sends-at stage.Running s due n p id = sends-advancing s due n p id
+sends-at (stage.Paused k) s due n p id = sends-repeating s p id
+sends-at stage.Resuming s due n p id = sends-resuming s due n p id
+sends-at stage.Ended s due n p id = sends-repeating s p id
 
--- 7. A tick that transmits a word counts it, and the readbacks missing after the send before; one that transmits nothing leaves both counts.
-pub counts : (s : Sequencer) (due n p id : ℕ) → Counts s (ticked s due n p id)
+-- 7. A tick that transmits a word counts it, and the readbacks missing after the send before, and uses the tag, if there is one; one that transmits
+-- nothing leaves both counts, the tag, and the mark of the last send.
+pub sends : (s : Sequencer) (due n p id : ℕ) → Sends s (ticked s due n p id)
 unfolding ticked
-counts s due n p id = counts-at (s .stage) s due n p id
+sends s due n p id = sends-at (s .stage) s due n p id
+
+-- a resume is loaded, or changes nothing
+pub resumed-either : (P : Sequencer → Type 0) (s : Sequencer) (k delay : ℕ) → P (loadedResume s delay) → P s → P (resumed s k delay)
+unfolding resumed
+resumed-either P s k delay h g = go (s .stage)
+  where
+    loaded : (e : Bool) → P (cond e (loadedResume s delay) s)
+    loaded true = h
+    loaded false = g
+
+    go : (at : Stage) → P (resumedAt at s k delay)
+    go stage.Idle = g
+    go stage.Starting = g
+    go stage.Running = g
+    go (stage.Paused j) = loaded (eqb j k)
+    go stage.Resuming = g
+    go stage.Ended = g
 
 -- both counts stay
 abbrev CountsStay : Sequencer → Sequencer → Type 0
 CountsStay s t = (t .count ≡ s .count) × (t .missing ≡ s .missing)
-
-loaded-counts : (s : Sequencer) (delay : ℕ) (e : Bool) → CountsStay s (cond e (loadedResume s delay) s)
-loaded-counts s delay true = (refl, refl)
-loaded-counts s delay false = (refl, refl)
-
-resumed-counts : (g : Stage) (s : Sequencer) (k delay : ℕ) → CountsStay s (resumedAt g s k delay)
-resumed-counts stage.Idle s k delay = (refl, refl)
-resumed-counts stage.Starting s k delay = (refl, refl)
-resumed-counts stage.Running s k delay = (refl, refl)
-resumed-counts (stage.Paused j) s k delay = loaded-counts s delay (eqb j k)
-resumed-counts stage.Resuming s k delay = (refl, refl)
-resumed-counts stage.Ended s k delay = (refl, refl)
 
 -- what is no tick leaves both
 pub counts-stay : (s : Sequencer)
@@ -127,13 +143,35 @@ counts-stay s = (
   (refl, refl),
   (refl, refl),
   λ delay. (refl, refl),
-  λ k delay. resumed-counts (s .stage) s k delay,
+  λ k delay. resumed-either (CountsStay s) s k delay (refl, refl) (refl, refl),
 )
 
 -- but Group End clears the setpoint count, and it alone
 pub group-end-counts : (s : Sequencer) → (groupEnded s .count ≡ 0) × (groupEnded s .missing ≡ s .missing)
 unfolding groupEnded idled
 group-end-counts s = (refl, refl)
+
+-- 9. Card 6: an armed channel takes a tag, idle or not, and a second adds nothing; a disarmed one takes none.
+pub tag-taken : (s : Sequencer) → s .armed ≡ true → (tagged s ≡ withTag s true) × (tagged (tagged s) ≡ tagged s)
+unfolding tagged
+tag-taken s e = (rw e, rw e)
+
+pub tag-ignored : (s : Sequencer) → s .armed ≡ false → tagged s ≡ s
+unfolding tagged
+tag-ignored s e = rw e
+
+-- "Group End, disarm and reset drop a tag not yet used.": Start and Resume, idling as at a user change, and a reply leave it
+pub tag-stays : (s : Sequencer)
+    → (idled s .tag ≡ s .tag)
+    × (answered s .tag ≡ s .tag)
+    × ((delay : ℕ) → started s delay .tag ≡ s .tag)
+    × ((k delay : ℕ) → resumed s k delay .tag ≡ s .tag)
+unfolding idled answered started
+tag-stays s = (refl, refl, λ delay. refl, λ k delay. resumed-either (λ (t : Sequencer). t .tag ≡ s .tag) s k delay refl refl)
+
+pub tag-dropped : (s : Sequencer) → (groupEnded s .tag ≡ false) × (disarmed s .tag ≡ false) × (opened .tag ≡ false)
+unfolding groupEnded disarmed
+tag-dropped s = (refl, refl, refl)
 
 counted-by : (c : ℕ) (e : Bool) → ltb c 0xffffff ≡ e → c ≤ 0xffffff → cond e (c + 1) c ≡ min (c + 1) 0xffffff
 counted-by c true e h = omega (arith, ltb-true c 0xffffff e)

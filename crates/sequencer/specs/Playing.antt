@@ -7,6 +7,7 @@
 --   "the last send since idle (if any, and which of first, paused, last it was), the replies after it"   last
 --   "the setpoint count"                                  count
 -- Document 02, card 2: "The channel record carries the Frame ID of its last setpoint send and this count."   last .id, missing
+-- Card 6: "a tag not yet used"; "that send", the one that used it   tag; last .tagged
 use Prim.Native.Nat.{ℕ, _+_, _-_, min}
 use mathlib.Core.Bool.{Bool, true, false, cond, not, _&&_}
 use lib.Dec.{leb, ltb, eqb}
@@ -57,37 +58,40 @@ isEnded stage.Ended = true
 
 -- "the last send since idle (if any ..)": none, and then no Frame ID is looked at
 abbrev pub nothingSent : LastSend
-nothingSent = record { sent = false; first = false; paused = false; last = false; id = 0; replies = 0 }
+nothingSent = record { sent = false; first = false; paused = false; last = false; id = 0; tagged = false; replies = 0 }
 
 -- "channels disarmed", nothing under way, nothing counted
 abbrev pub opened : Sequencer
 opened =
-    record { armed = false; stage = stage.Idle; left = 0; resume = 0; index = 0; word = 0; last = nothingSent; count = 0; missing = 0 }
+    record { armed = false; stage = stage.Idle; left = 0; resume = 0; index = 0; word = 0; last = nothingSent; count = 0; missing = 0; tag = false }
 
 -- the state with one field changed
 abbrev pub withArmed : Sequencer → Bool → Sequencer
-withArmed s armed = record { armed = armed; stage = s .stage; left = s .left; resume = s .resume; index = s .index; word = s .word; last = s .last; count = s .count; missing = s .missing }
+withArmed s armed = record { armed = armed; stage = s .stage; left = s .left; resume = s .resume; index = s .index; word = s .word; last = s .last; count = s .count; missing = s .missing; tag = s .tag }
 
 abbrev pub withLeft : Sequencer → ℕ → Sequencer
-withLeft s left = record { armed = s .armed; stage = s .stage; left = left; resume = s .resume; index = s .index; word = s .word; last = s .last; count = s .count; missing = s .missing }
+withLeft s left = record { armed = s .armed; stage = s .stage; left = left; resume = s .resume; index = s .index; word = s .word; last = s .last; count = s .count; missing = s .missing; tag = s .tag }
 
 abbrev pub withResume : Sequencer → ℕ → Sequencer
-withResume s resume = record { armed = s .armed; stage = s .stage; left = s .left; resume = resume; index = s .index; word = s .word; last = s .last; count = s .count; missing = s .missing }
+withResume s resume = record { armed = s .armed; stage = s .stage; left = s .left; resume = resume; index = s .index; word = s .word; last = s .last; count = s .count; missing = s .missing; tag = s .tag }
 
 abbrev pub withLast : Sequencer → LastSend → Sequencer
-withLast s last = record { armed = s .armed; stage = s .stage; left = s .left; resume = s .resume; index = s .index; word = s .word; last = last; count = s .count; missing = s .missing }
+withLast s last = record { armed = s .armed; stage = s .stage; left = s .left; resume = s .resume; index = s .index; word = s .word; last = last; count = s .count; missing = s .missing; tag = s .tag }
 
 abbrev pub withCount : Sequencer → ℕ → Sequencer
-withCount s count = record { armed = s .armed; stage = s .stage; left = s .left; resume = s .resume; index = s .index; word = s .word; last = s .last; count = count; missing = s .missing }
+withCount s count = record { armed = s .armed; stage = s .stage; left = s .left; resume = s .resume; index = s .index; word = s .word; last = s .last; count = count; missing = s .missing; tag = s .tag }
 
 abbrev pub withMissing : Sequencer → ℕ → Sequencer
-withMissing s missing = record { armed = s .armed; stage = s .stage; left = s .left; resume = s .resume; index = s .index; word = s .word; last = s .last; count = s .count; missing = missing }
+withMissing s missing = record { armed = s .armed; stage = s .stage; left = s .left; resume = s .resume; index = s .index; word = s .word; last = s .last; count = s .count; missing = missing; tag = s .tag }
+
+abbrev pub withTag : Sequencer → Bool → Sequencer
+withTag s tag = record { armed = s .armed; stage = s .stage; left = s .left; resume = s .resume; index = s .index; word = s .word; last = s .last; count = s .count; missing = s .missing; tag = tag }
 
 -- "if the channel isn't idle and the last word wasn't sent since its latest Start": idling then is an early end, EE
 abbrev pub unfinished : Sequencer → Bool
 unfinished s = not (isIdle (s .stage)) && not (isEnded (s .stage))
 
--- "idle": the function is dropped, and with it its countdowns, its words and its last send
+-- "idle": the function is dropped, and with it its countdowns, its words and its last send; a tag not yet used stays
 unfoldable pub idled : Sequencer → Sequencer
 idled s =
     record {
@@ -100,15 +104,16 @@ idled s =
       last = nothingSent;
       count = s .count;
       missing = s .missing;
+      tag = s .tag;
     }
 
 -- "Arming an armed channel changes nothing."
 unfoldable pub armed : Sequencer → Sequencer
 armed s = withArmed s true
 
--- "Disarm idles, without EE."
+-- "Disarm idles, without EE."; card 6: "Group End, disarm and reset drop a tag not yet used."
 unfoldable pub disarmed : Sequencer → Sequencer
-disarmed s = withArmed (idled s) false
+disarmed s = withTag (withArmed (idled s) false) false
 
 -- Start: "It loads the current user's start delay (0 for a command) plus 10."
 -- From the first word; the last send stays until the next.
@@ -124,6 +129,7 @@ started s delay =
       last = s .last;
       count = s .count;
       missing = s .missing;
+      tag = s .tag;
     }
 
 -- a resume is loaded: the delay, nine silent ticks, and the tick that sends
@@ -139,6 +145,7 @@ loadedResume s delay =
       last = s .last;
       count = s .count;
       missing = s .missing;
+      tag = s .tag;
     }
 
 -- a resume ends its own pause alone
@@ -167,7 +174,8 @@ shortfall l = cond (l .sent && eqb (l .id) 0x15) (6 - l .replies) 0
 abbrev pub missingWith : ℕ → ℕ → ℕ
 missingWith missing more = min (missing + more) 255
 
--- the word due is sent, of this kind, with this Frame ID: "After a send the next follows one period later."
+-- the word due is sent, of this kind, with this Frame ID: "After a send the next follows one period later." A tag not yet used marks this send, and so
+-- "the send after it ends the mark", here and where a word is repeated.
 unfoldable pub sentAs : Sequencer → ℕ → ℕ → ℕ → Kind → Ticked
 sentAs s due period id k =
     record {
@@ -178,9 +186,10 @@ sentAs s due period id k =
         resume = 0;
         index = indexAfter k (s .index);
         word = due;
-        last = record { sent = true; first = isStarting (s .stage); paused = pauses k; last = ends k; id = id; replies = 0 };
+        last = record { sent = true; first = isStarting (s .stage); paused = pauses k; last = ends k; id = id; tagged = s .tag; replies = 0 };
         count = counted (s .count);
         missing = missingWith (s .missing) (shortfall (s .last));
+        tag = false;
       };
       transmission = transmission.Word due (conditionOf k);
     }
@@ -200,9 +209,10 @@ repeated s period id =
         resume = s .resume;
         index = s .index;
         word = s .word;
-        last = record { sent = true; first = false; paused = isPaused (s .stage); last = isEnded (s .stage); id = id; replies = 0 };
+        last = record { sent = true; first = false; paused = isPaused (s .stage); last = isEnded (s .stage); id = id; tagged = s .tag; replies = 0 };
         count = counted (s .count);
         missing = missingWith (s .missing) (shortfall (s .last));
+        tag = false;
       };
       transmission = transmission.Word (s .word) 0;
     }
@@ -239,12 +249,16 @@ unfoldable pub ticked : Sequencer → ℕ → ℕ → ℕ → ℕ → Ticked
 ticked s due n period id = tickedAt (s .stage) s due n period id
 
 abbrev pub withReplies : LastSend → ℕ → LastSend
-withReplies l replies = record { sent = l .sent; first = l .first; paused = l .paused; last = l .last; id = l .id; replies = replies }
+withReplies l replies = record { sent = l .sent; first = l .first; paused = l .paused; last = l .last; id = l .id; tagged = l .tagged; replies = replies }
 
 -- one more reply after the last send; six are counted
 unfoldable pub answered : Sequencer → Sequencer
 answered s = withLast s (withReplies (s .last) (cond (ltb (s .last .replies) 6) (s .last .replies + 1) (s .last .replies)))
 
--- Group End: "idle; .. the setpoint count is .. cleared"
+-- Group End: "idle; .. the setpoint count is .. cleared"; card 6: it drops "a tag not yet used"
 unfoldable pub groupEnded : Sequencer → Sequencer
-groupEnded s = withCount (idled s) 0
+groupEnded s = withTag (withCount (idled s) 0) false
+
+-- document 02, card 6: "A tag event or Commands D3 on an armed channel marks the next setpoint send", idle or not; a second tag before that send adds nothing
+unfoldable pub tagged : Sequencer → Sequencer
+tagged s = cond (s .armed) (withTag s true) s

@@ -91,6 +91,16 @@ abbrev pub missingAfter : Transmission → LastSend → ℕ → ℕ
 missingAfter transmission.Nothing last missing = missing
 missingAfter (transmission.Word word condition) last missing = missingWith missing (shortfall last)
 
+-- document 02, card 6: a tag not yet used after a tick that transmits this: it "marks the next setpoint send", which uses it
+abbrev pub tagAfter : Transmission → Bool → Bool
+tagAfter transmission.Nothing tag = tag
+tagAfter (transmission.Word word condition) tag = false
+
+-- whether the last send used a tag: "the send after it ends the mark"
+abbrev pub usedAfter : Transmission → (tag used : Bool) → Bool
+usedAfter transmission.Nothing tag used = used
+usedAfter (transmission.Word word condition) tag used = tag
+
 -- how many words a tick that transmits this sends
 abbrev pub asNumber : Transmission → ℕ
 asNumber transmission.Nothing = 0

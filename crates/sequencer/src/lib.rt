@@ -1,4 +1,5 @@
-// Playing a function: arming, the stage, the countdowns, which word is due, what is sent, the setpoint count, and the count of missing readbacks.
+// Playing a function: arming, the stage, the countdowns, which word is due, what is sent, the setpoint count, the count of missing readbacks, and a tag
+// for the next send.
 // The sequencer knows no register and no memory: the word due, the period and the Frame ID are handed in on each tick.
 pub mod stages;
 mod ticks;
@@ -6,7 +7,7 @@ mod words;
 
 ghost use mathlib.Core.Path.{_≡_};
 ghost use Prim.Native.Nat.{_≤_};
-ghost use Rattle.sequencer.specs.Playing.{opened, unfinished, nothingSent, shortfall, missingWith, idled, armed, disarmed, started, resumed, answered, groupEnded, withMissing};
+ghost use Rattle.sequencer.specs.Playing.{opened, unfinished, nothingSent, shortfall, missingWith, idled, armed, disarmed, started, resumed, answered, groupEnded, tagged, withMissing};
 
 // The Frame ID whose missing replies are counted: a supply answers it with six readbacks.
 const READBACK_ID: u8 = 0x15;
@@ -33,13 +34,15 @@ pub enum Kind {
     Last,
 }
 
-// The last send since idle, if any, what it was, the Frame ID that it carried, and the replies after it.
+// The last send since idle, if any, what it was, the Frame ID that it carried, whether it used a tag, and the replies after it.
 pub struct LastSend {
     pub sent: bool,
     pub first: bool,
     pub paused: bool,
     pub last: bool,
     pub id: u8,
+    // It used a tag.
+    pub tagged: bool,
     pub replies: u8,
 }
 
@@ -59,6 +62,8 @@ pub struct Sequencer {
     pub count: u32,
     // The count of missing readbacks.
     pub missing: u8,
+    // A tag that no send has used.
+    pub tag: bool,
 }
 
 // What a tick sends: nothing, or a word, with the status bit that the word latches (0: none).
@@ -92,6 +97,7 @@ impl LastSend {
             paused: false,
             last: false,
             id: 0,
+            tagged: false,
             replies: 0,
         }
     }
@@ -128,6 +134,7 @@ impl Sequencer {
             last: LastSend::nothing(),
             count: 0,
             missing: 0,
+            tag: false,
         }
     }
 
@@ -142,7 +149,7 @@ impl Sequencer {
         !stages::is_ended(stage)
     }
 
-    // The function dropped; armed or not, and both counts, stay.
+    // The function dropped; armed or not, both counts, and a tag not yet used stay.
     pub fn idled(self) -> Sequencer
         ensures { λ r. ⌜ r ≡ idled self ⌝ }
     {
@@ -156,6 +163,7 @@ impl Sequencer {
             last: LastSend::nothing(),
             count: self.count,
             missing: self.missing,
+            tag: self.tag,
         }
     }
 
@@ -172,6 +180,7 @@ impl Sequencer {
     {
         let mut next = self.idled();
         next.armed = false;
+        next.tag = false;
         next
     }
 
@@ -190,6 +199,7 @@ impl Sequencer {
             last: last,
             count: self.count,
             missing: self.missing,
+            tag: self.tag,
         }
     }
 
@@ -215,6 +225,7 @@ impl Sequencer {
                         last: last,
                         count: self.count,
                         missing: self.missing,
+                        tag: self.tag,
                     };
                 }
                 self
@@ -256,12 +267,24 @@ impl Sequencer {
         next
     }
 
-    // Group End's share: the function dropped, the setpoint count cleared.
+    // Group End's share: the function and a tag not yet used dropped, the setpoint count cleared.
     pub fn group_ended(self) -> Sequencer
         ensures { λ r. ⌜ r ≡ groupEnded self ⌝ }
     {
         let mut next = self.idled();
         next.count = 0;
+        next.tag = false;
+        next
+    }
+
+    // A tag for the next send, of a channel that is armed.
+    pub fn tagged(self) -> Sequencer
+        ensures { λ r. ⌜ r ≡ tagged self ⌝ }
+    {
+        let mut next = self;
+        if next.armed {
+            next.tag = true;
+        }
         next
     }
 }

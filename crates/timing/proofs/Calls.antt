@@ -1,19 +1,20 @@
--- A write to Commands and an event, lent the right length, by their parts: Group End, Start, resumes. Assumes nothing.
+-- A write to Commands and an event, lent the right length, by their parts: Group End, Start, resumes, Tag. Assumes nothing.
 use Prim.Native.Nat.{ℕ, _*_}
 use mathlib.Core.Path.{_≡_, refl, sym, ap, _∙_}
-use mathlib.Core.Bool.{Bool, true, false}
+use mathlib.Core.Bool.{Bool, true, false, cond}
 use native.Mathlib.Omega.{arith}
 use borrow.Author.Tests.{eq-eqb}
 use Rattle.register_map.specs.AccessRule.{channelAccess}
 use Rattle.status.specs.Bits.{bitAt}
 use Rattle.registers.specs.declared.Registers.{Registers}
-use Rattle.registers.specs.Map.{triggersOf, delayOf, startEvent, groupEndEvent}
+use Rattle.registers.specs.Map.{triggersOf, delayOf, startEvent, groupEndEvent, tagEvent}
+use Rattle.sequencer.specs.declared.Sequencer.{Sequencer}
 use Rattle.sequencer.specs.declared.Stage.the-variants as stage
 use Rattle.sequencer.specs.Playing as seq
 use Rattle.sequencer.proofs.Moves.{resume-ignored}
 use Rattle.channel_core.specs.declared.Channel.{Channel}
 use Rattle.channel_core.specs.State.{withSequencer}
-use Rattle.channel_core.specs.Behaviour.{started, groupEnded, endedIf, startedIf, resumedIf, resumedOn, eventOf, eventWords, commanded, commandWords}
+use Rattle.channel_core.specs.Behaviour.{started, groupEnded, endedIf, startedIf, resumedIf, taggedIf, resumedOn, eventOf, eventWords, commanded, commandWords}
 use Rattle.channel_registers.specs.Calls.{registerRefusal, registerEffect, registerWords}
 use Rattle.channel.specs.OneChannel.{OneChannel, refusalOf, effect, transition, withChannel, withReadbacks}
 use Rattle.channel.proofs.Cases.{clash}
@@ -70,31 +71,57 @@ not-starting : (c : Channel) (delay : ℕ) → c .sequencer .armed ≡ true
     → (on : Bool) (k : ℕ) → started c delay .sequencer .stage ≡ stage.Paused k → on ≡ false
 not-starting c delay h on k e = absurd (let s = started-stage c delay h in let z : _≡_ {A = ℕ} 0 1 = cc in omega arith)
 
+-- a tag, where it is asked for, of the sequencer by itself
+abbrev pub tagIf : Bool → Sequencer → Sequencer
+tagIf on s = cond on (seq.tagged s) s
+
+tagged-sequencer : (on : Bool) (c : Channel) → taggedIf on c .sequencer ≡ tagIf on (c .sequencer)
+unfolding taggedIf
+tagged-sequencer true c = refl
+tagged-sequencer false c = refl
+
+-- Start leaves the tag: so before it or after it is the same
+tagged-started : (on : Bool) (s : Sequencer) (delay : ℕ) → tagIf on (seq.started s delay) ≡ seq.started (tagIf on s) delay
+unfolding seq.tagged seq.started
+tagged-started true s delay = go (s .armed)
+  where
+    go : (b : Bool) → cond b (seq.withTag (seq.started s delay) true) (seq.started s delay) ≡ seq.started (cond b (seq.withTag s true) s) delay
+    go true = refl
+    go false = refl
+tagged-started false s delay = refl
+
 -- a command with D0, or an event that starts, of an armed channel: resumes find no pause, and the sequencer is started
 pub command-starts : (c : Channel) (value : ℕ) → c .sequencer .armed ≡ true → bitAt value 0 ≡ true
-    → commanded c value .sequencer ≡ seq.started (endedIf (bitAt value 2) c .sequencer) 0
+    → commanded c value .sequencer ≡ seq.started (tagIf (bitAt value 3) (endedIf (bitAt value 2) c .sequencer)) 0
 unfolding commanded startedIf
 command-starts c value armed on =
     let e = endedIf (bitAt value 2) c in
     let a : e .sequencer .armed ≡ true = ended-armed (bitAt value 2) c ∙ armed in
     rw on
-    (ap (λ (x : Channel). x .sequencer) (resume-nothing (bitAt value 1) (started e 0) 0 0 (not-starting e 0 a (bitAt value 1) 0))
-    ∙ started-sequencer e 0 a)
+    (tagged-sequencer (bitAt value 3) _
+    ∙ ap (λ (x : Channel). tagIf (bitAt value 3) (x .sequencer))
+    (resume-nothing (bitAt value 1) (started e 0) 0 0 (not-starting e 0 a (bitAt value 1) 0))
+    ∙ ap (tagIf (bitAt value 3)) (started-sequencer e 0 a)
+    ∙ tagged-started (bitAt value 3) (e .sequencer) 0)
 
 pub event-starts : (c : Channel) (user code : ℕ) → c .sequencer .armed ≡ true
     → triggersOf (c .registers) startEvent code ≡ true
     → eventOf c user code .sequencer
-    ≡ seq.started (endedIf (triggersOf (c .registers) groupEndEvent code) c .sequencer) (delayOf (c .registers) 0 user)
+    ≡ seq.started (tagIf (triggersOf (c .registers) tagEvent code) (endedIf (triggersOf (c .registers) groupEndEvent code) c .sequencer))
+    (delayOf (c .registers) 0 user)
 unfolding eventOf startedIf
 event-starts c user code armed on =
     let r = c .registers in
     let e = endedIf (triggersOf r groupEndEvent code) c in
     let d = delayOf r 0 user in
     let a : e .sequencer .armed ≡ true = ended-armed (triggersOf r groupEndEvent code) c ∙ armed in
+    let t = triggersOf r tagEvent code in
     rw on
-    (ap (λ (x : Channel). x .sequencer)
+    (tagged-sequencer t _
+    ∙ ap (λ (x : Channel). tagIf t (x .sequencer))
     (resumes-nothing r (started e d) user code (λ k. not-starting e d a (triggersOf r k code) k))
-    ∙ started-sequencer e d a)
+    ∙ ap (tagIf t) (started-sequencer e d a)
+    ∙ tagged-started t (e .sequencer) d)
 
 -- with no Group End the registers stay
 pub command-registers : (c : Channel) (value : ℕ) → bitAt value 2 ≡ false → commanded c value .registers ≡ c .registers

@@ -7,19 +7,19 @@ use lib.Dec.{leb}
 use borrow.Author.Tests.{lt-leb}
 use Rattle.status.specs.Bits.{bitAt}
 use Rattle.registers.specs.declared.Registers.{Registers}
-use Rattle.registers.specs.Map.{triggersOf, delayOf}
+use Rattle.registers.specs.Map.{triggersOf, delayOf, tagEvent}
 use Rattle.sequencer.specs.declared.Stage.{Stage}
 use Rattle.sequencer.specs.declared.Stage.the-variants as stage
 use Rattle.sequencer.specs.declared.Sequencer.{Sequencer}
 use Rattle.sequencer.specs.declared.Ticked.{Ticked}
-use Rattle.sequencer.specs.Playing.{resumed, loadedResume, withResume, quiet, repeating, resuming, sentNext, ticked, tickedAt}
+use Rattle.sequencer.specs.Playing.{resumed, tagged, loadedResume, withResume, withTag, quiet, repeating, resuming, sentNext, ticked, tickedAt}
 use Rattle.sequencer.specs.Runs.{next, ticks}
 use Rattle.sequencer.proofs.Steps.{repeating-same}
 use Rattle.sequencer.proofs.Laws as laws
 use Rattle.sequencer.proofs.Moves.{resume-taken}
 use Rattle.channel_core.specs.declared.Channel.{Channel}
 use Rattle.channel_core.specs.State.{withSequencer}
-use Rattle.channel_core.specs.Behaviour.{endedIf, endedWords, startedIf, resumedIf, resumedOn, eventOf, eventWords, commanded, commandWords}
+use Rattle.channel_core.specs.Behaviour.{endedIf, endedWords, startedIf, resumedIf, taggedIf, resumedOn, eventOf, eventWords, commanded, commandWords}
 use Rattle.channel.specs.OneChannel.{OneChannel, transition, withChannel}
 use Rattle.timing.specs.Ticking.{wordAt, period, answerOn, Resumes}
 use Rattle.timing.specs.Timing.{command, eventCall, triggeredBy, delay, OnlyResumes, OnlyD1}
@@ -31,12 +31,13 @@ use Rattle.timing.proofs.Series.{period-some}
 -- ---- An event or command that resumes alone
 
 event-resumes : (o : OneChannel) (code : ℕ) → OnlyResumes o code
-    → transition o (eventCall o code) ≡ withChannel o (resumedOn (o .channel .registers) (o .channel) (o .user) code)
+    → transition o (eventCall o code)
+    ≡ withChannel o (taggedIf (triggeredBy o tagEvent code) (resumedOn (o .channel .registers) (o .channel) (o .user) code))
 unfolding eventOf eventWords endedIf endedWords startedIf
 event-resumes o code only = event-transition o code ∙ rw (only .0) (rw (only .1))
 
 command-resumes : (o : OneChannel) (value : ℕ) → OnlyD1 value
-    → transition o (command o value) ≡ withChannel o (resumedIf (bitAt value 1) (o .channel) 0 0)
+    → transition o (command o value) ≡ withChannel o (taggedIf (bitAt value 3) (resumedIf (bitAt value 1) (o .channel) 0 0))
 unfolding commanded commandWords endedIf endedWords startedIf
 command-resumes o value only = command-transition o value ∙ rw (only .0) (rw (only .1))
 
@@ -51,14 +52,16 @@ not-resuming k a b = absurd (let z : _≡_ {A = ℕ} 0 1 = cc in omega arith)
 
 ignored : (o : OneChannel) (code : ℕ) → OnlyResumes o code
     → ((k : ℕ) → o .channel .sequencer .stage ≡ stage.Paused k → triggeredBy o k code ≡ false)
-    → transition o (eventCall o code) ≡ o
+    → transition o (eventCall o code) ≡ the.taggedIf (triggeredBy o tagEvent code) o
 ignored o code only h =
-    event-resumes o code only ∙ ap (withChannel o) (resumes-nothing (o .channel .registers) (o .channel) (o .user) code h)
+    event-resumes o code only
+    ∙ ap (λ (c : Channel). withChannel o (taggedIf (triggeredBy o tagEvent code) c)) (resumes-nothing (o .channel .registers) (o .channel) (o .user) code h)
 
 ignored-command : (o : OneChannel) (value : ℕ) → OnlyD1 value → (o .channel .sequencer .stage ≡ stage.Paused 0 → bitAt value 1 ≡ false)
-    → transition o (command o value) ≡ o
+    → transition o (command o value) ≡ the.taggedIf (bitAt value 3) o
 ignored-command o value only h =
-    command-resumes o value only ∙ ap (withChannel o) (resume-nothing (bitAt value 1) (o .channel) 0 0 h)
+    command-resumes o value only
+    ∙ ap (λ (c : Channel). withChannel o (taggedIf (bitAt value 3) c)) (resume-nothing (bitAt value 1) (o .channel) 0 0 h)
 
 pub other-pause : the.OtherPause
 other-pause o code j only at off =
@@ -151,11 +154,12 @@ module _ (words : ℕ → ℕ) (n p id : ℕ) where
       let f : t .resume - 1 ≡ d + 10 - suc j = omega (arith, k .1) in
       (ap (λ (x : Ticked). x .sequencer .stage) e ∙ v .0 ∙ k .0, ap (λ (x : Ticked). x .sequencer .resume) e ∙ v .1 ∙ f)
 
-resumes : (o : OneChannel) (k d : ℕ) → o .channel .sequencer .stage ≡ stage.Paused k → 1 ≤ o .channel .sequencer .left
-    → Resumes o (withChannel o (loaded (o .channel) k d)) d
-resumes o k d at some =
-    let q = o .channel .sequencer in
-    let r = withChannel o (loaded (o .channel) k d) in
+-- whatever its tag
+resumes : (o : OneChannel) (k d : ℕ) (tag : Bool) → o .channel .sequencer .stage ≡ stage.Paused k → 1 ≤ o .channel .sequencer .left
+    → Resumes o (withChannel o (withSequencer (o .channel) (resumed (withTag (o .channel .sequencer) tag) k d))) d
+resumes o k d tag at some =
+    let q = withTag (o .channel .sequencer) tag in
+    let r = withChannel o (withSequencer (o .channel) (resumed q k d)) in
     let l = laws.resume (wordAt o) (o .n) (period o) (o .channel .registers .id) q k d at some (period-some o) in
     record {
       repeats = λ j a b. repeat o r (q .word) (q .left) j a refl refl (l .0 j b);
@@ -168,15 +172,41 @@ resumes o k d at some =
           ∙ way (wordAt o) (o .n) (period o) (o .channel .registers .id) q d j h .0;
     }
 
+-- a tag after the resume is the resume of a channel with that tag
+tagged-loaded : (on : Bool) (c : Channel) (k d : ℕ) → c .sequencer .stage ≡ stage.Paused k
+    → (tag : Bool) × (taggedIf on (loaded c k d) ≡ withSequencer c (resumed (withTag (c .sequencer) tag) k d))
+unfolding taggedIf tagged
+tagged-loaded true c k d at =
+    let s = c .sequencer in
+    let e = resume-taken s k d at in
+    let x = go (s .armed) in
+    (x .0, ap (withSequencer c) (rw e (x .1) ∙ sym (resume-taken (withTag s (x .0)) k d at)))
+  where
+    go : (b : Bool)
+        → (tag : Bool)
+        × (cond b (withTag (loadedResume (c .sequencer) d) true) (loadedResume (c .sequencer) d) ≡ loadedResume (withTag (c .sequencer) tag) d)
+    go true = (true, refl)
+    go false = (c .sequencer .tag, refl)
+tagged-loaded false c k d at = (c .sequencer .tag, refl)
+
 pub resume-by-event : the.ResumeByEvent
 resume-by-event o code k only low high on at some =
     let r = o .channel .registers in
+    let t = triggeredBy o tagEvent code in
+    let x = tagged-loaded t (o .channel) k (delay o k) at in
     subst (λ (p : OneChannel). Resumes o p (delay o k))
-    (sym (event-resumes o code only ∙ ap (withChannel o) (taken r (o .channel) (o .user) code k low high on at)))
-    (resumes o k (delay o k) at some)
+    (sym
+    (event-resumes o code only
+    ∙ ap (λ (c : Channel). withChannel o (taggedIf t c)) (taken r (o .channel) (o .user) code k low high on at)
+    ∙ ap (withChannel o) (x .1)))
+    (resumes o k (delay o k) (x .0) at some)
 
 pub resume-by-command : the.ResumeByCommand
 resume-by-command o value only on at some =
+    let x = tagged-loaded (bitAt value 3) (o .channel) 0 0 at in
     subst (λ (p : OneChannel). Resumes o p 0)
-    (sym (command-resumes o value only ∙ ap (withChannel o) (command-taken (o .channel) (bitAt value 1) on)))
-    (resumes o 0 0 at some)
+    (sym
+    (command-resumes o value only
+    ∙ ap (λ (c : Channel). withChannel o (taggedIf (bitAt value 3) c)) (command-taken (o .channel) (bitAt value 1) on)
+    ∙ ap (withChannel o) (x .1)))
+    (resumes o 0 0 (x .0) at some)

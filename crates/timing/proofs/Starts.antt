@@ -4,7 +4,7 @@ use mathlib.Core.Path.{_≡_, refl, sym, ap, subst, _∙_}
 use mathlib.Core.List.{List}
 use native.Mathlib.Omega.{arith}
 use Rattle.status.specs.Bits.{bitAt}
-use Rattle.registers.specs.Map.{groupEndEvent}
+use Rattle.registers.specs.Map.{groupEndEvent, tagEvent}
 use Rattle.sequencer.specs.declared.Sequencer.{Sequencer}
 use Rattle.sequencer.specs.Playing as seq
 use Rattle.sequencer.specs.Runs.{Leaves}
@@ -17,7 +17,7 @@ use Rattle.timing.specs.Ticking.{wordAt, period, Keeps, NextSetpoint}
 use Rattle.timing.specs.Timing.{command, eventCall, triggeredBy, delay}
 use Rattle.timing.specs.Timing as the
 use Rattle.timing.proofs.Bridge.{next-setpoint}
-use Rattle.timing.proofs.Calls.{command-transition, event-transition, command-starts, event-starts, command-registers, event-registers, command-frames, event-frames}
+use Rattle.timing.proofs.Calls.{command-transition, event-transition, tagIf, command-starts, event-starts, command-registers, event-registers, command-frames, event-frames}
 
 start-setpoint : (o : OneChannel) (s : Sequencer) (d : ℕ) → o .channel .sequencer ≡ seq.started s d → NextSetpoint o (d + 10) 0
 start-setpoint o s d e =
@@ -28,13 +28,14 @@ start-setpoint o s d e =
 pub start-by-command : the.StartByCommand
 start-by-command o value armed on =
     let c = o .channel in
-    start-setpoint (transition o (command o value)) (endedIf (bitAt value 2) c .sequencer) 0
+    start-setpoint (transition o (command o value)) (tagIf (bitAt value 3) (endedIf (bitAt value 2) c .sequencer)) 0
     (ap (λ (p : OneChannel). p .channel .sequencer) (command-transition o value) ∙ command-starts c value armed on)
 
 pub start-by-event : the.StartByEvent
 start-by-event o code armed on =
     let c = o .channel in
-    start-setpoint (transition o (eventCall o code)) (endedIf (triggeredBy o groupEndEvent code) c .sequencer) (delay o 0)
+    start-setpoint (transition o (eventCall o code))
+    (tagIf (triggeredBy o tagEvent code) (endedIf (triggeredBy o groupEndEvent code) c .sequencer)) (delay o 0)
     (ap (λ (p : OneChannel). p .channel .sequencer) (event-transition o code) ∙ event-starts c (o .user) code armed on)
 
 same-registers-keep : (o : OneChannel) (c : Channel) (s : List ℕ) → c .registers ≡ o .channel .registers → c .commands ≡ o .channel .commands

@@ -1,17 +1,18 @@
 -- Document 01, 'A channel's life': when which setpoint leaves, over what ticks ANSWER on one channel by itself. Of any state `o`, reachable or not.
--- Document 02, card 1: a command frame may leave on the next tick, where no setpoint does (`between`).
+-- Document 02, card 1: a command frame may leave on the next tick, where no setpoint does (`between`). Card 6: an event or command may be a tag too.
 use Prim.Native.Nat.{ℕ, _+_, _*_, _≤_, _<_}
 use mathlib.Core.Path.{_≡_}
 use mathlib.Core.Bool.{Bool, true, false}
 use mathlib.Core.List.{List}
 use Rattle.status.specs.Bits.{bitAt}
-use Rattle.registers.specs.Map.{triggersOf, delayOf, startEvent, groupEndEvent}
+use Rattle.registers.specs.Map.{triggersOf, delayOf, startEvent, groupEndEvent, tagEvent}
 use Rattle.sequencer.specs.declared.Kind.the-variants as kind
 use Rattle.sequencer.specs.declared.Stage.the-variants as stage
 use Rattle.sequencer.specs.Playing.{isIdle, isStarting}
 use Rattle.sequencer.specs.Runs.{kindAt, advances, holds}
 use Rattle.channel_core.specs.Answers as ans
 use Rattle.channel_core.specs.State.{withStatus, withSequencer, withCommands}
+use Rattle.channel_core.specs.Behaviour as core
 use Rattle.channel.specs.OneChannel.{OneChannel, ChannelCall, writeRegister, event, transition, transitions, oneChannel, withChannel}
 use Rattle.timing.specs.Ticking.{after, onTick, wordAt, period, between, answerOn, frameOf, played, plays, Keeps, Sent, NextSetpoint, Repeat, KeptRepeat, Resumes, Still}
 
@@ -23,13 +24,17 @@ command o value = writeRegister (o .m * 8) 0x08 value
 abbrev pub eventCall : OneChannel → ℕ → ChannelCall
 eventCall o code = event (o .m * 8) code
 
--- whether register 0 (Start), 1 to 4 (Resume) or 5 (Group End) has this code, and is active
+-- whether register 0 (Start), 1 to 4 (Resume), 5 (Group End) or 6 (Tag) has this code, and is active
 abbrev pub triggeredBy : OneChannel → ℕ → ℕ → Bool
 triggeredBy o register code = triggersOf (o .channel .registers) register code
 
 -- the current user's start delay (0), or that of Resume 1 to 4
 abbrev pub delay : OneChannel → ℕ → ℕ
 delay o bank = delayOf (o .channel .registers) bank (o .user)
+
+-- with a tag, where the event or command asks for one, and otherwise as it was
+abbrev pub taggedIf : Bool → OneChannel → OneChannel
+taggedIf on o = withChannel o (core.taggedIf on (o .channel))
 
 -- ---- A. Ticks
 
@@ -106,7 +111,7 @@ HeldWord =
 
 -- ---- D. Resume: "Resume k (its event, for pause k) or Commands D1 (VME pause only) loads the current user's delay (0 for D1)."
 
--- an event that is neither Group End nor Start, a command without D2 and D0
+-- an event that is neither Group End nor Start, a command without D2 and D0; either may be a tag
 abbrev pub OnlyResumes : OneChannel → ℕ → Type 0
 OnlyResumes o code = (triggeredBy o groupEndEvent code ≡ false) × (triggeredBy o startEvent code ≡ false)
 
@@ -126,29 +131,29 @@ ResumeByCommand =
     → o .channel .sequencer .stage ≡ stage.Paused 0 → 1 ≤ o .channel .sequencer .left
     → Resumes o (transition o (command o value)) 0
 
--- an event changes nothing in a pause whose own Resume register has another code (so Resume k never ends pause j), nor in the VME pause
+-- an event changes nothing but the tag in a pause whose own Resume register has another code (so Resume k never ends pause j), nor in the VME pause
 abbrev pub OtherPause : Type 0
 OtherPause =
     (o : OneChannel) (code j : ℕ) → OnlyResumes o code → o .channel .sequencer .stage ≡ stage.Paused j → triggeredBy o j code ≡ false
-    → transition o (eventCall o code) ≡ o
+    → transition o (eventCall o code) ≡ taggedIf (triggeredBy o tagEvent code) o
 
 abbrev pub VmePause : Type 0
 VmePause =
     (o : OneChannel) (code : ℕ) → OnlyResumes o code → o .channel .sequencer .stage ≡ stage.Paused 0
-    → transition o (eventCall o code) ≡ o
+    → transition o (eventCall o code) ≡ taggedIf (triggeredBy o tagEvent code) o
 
 -- D1 changes nothing in pauses 1 to 4
 abbrev pub NotByD1 : Type 0
 NotByD1 =
     (o : OneChannel) (value j : ℕ) → OnlyD1 value → o .channel .sequencer .stage ≡ stage.Paused j → 1 ≤ j
-    → transition o (command o value) ≡ o
+    → transition o (command o value) ≡ taggedIf (bitAt value 3) o
 
 -- "Further resumes are ignored meanwhile.": through the delay and the silent ticks (`under-way` of `Resumes`)
 abbrev pub Meanwhile : Type 0
 Meanwhile =
     (o : OneChannel) → o .channel .sequencer .stage ≡ stage.Resuming
-    → ((code : ℕ) → OnlyResumes o code → transition o (eventCall o code) ≡ o)
-    × ((value : ℕ) → OnlyD1 value → transition o (command o value) ≡ o)
+    → ((code : ℕ) → OnlyResumes o code → transition o (eventCall o code) ≡ taggedIf (triggeredBy o tagEvent code) o)
+    × ((value : ℕ) → OnlyD1 value → transition o (command o value) ≡ taggedIf (bitAt value 3) o)
 
 -- ---- What the premises above ask of the countdown holds of every channel that calls lead to
 

@@ -58,6 +58,7 @@ impl Board {
         }
         let waiting = ch.waiting.take()?;
         self.tally_sent(c, waiting.asked);
+        self.watch_tag_at_command(c, waiting.asked.bits & 1 == 1);
         let ch = &mut self.ch[c];
         // "FE is cleared when a command frame is sent."
         ch.w[REPLIED] = 0;
@@ -78,6 +79,7 @@ impl Board {
     /// other high bits 0"
     pub(super) fn keep_for_command(&mut self, c: usize, reply: u64, wrong: bool) {
         self.tally_kept_for_command(c, reply, wrong);
+        self.watch_tag_kept(c, Did::tag_kept_over_command_reply);
         let w = &mut self.ch[c].w;
         let at = PAIRS + 2 * w[REPLIED] as usize;
         w[at] = (wrong as u16) << 8 | (reply >> 34) as u16 & 0xFF;

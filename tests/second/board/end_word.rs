@@ -4,7 +4,7 @@ use super::life::Asked;
 use super::{Board, Reply};
 use crate::tally::Did;
 
-const END_WORD: u32 = 0x0200_0000;
+pub(super) const END_WORD: u32 = 0x0200_0000;
 
 impl Board {
     /// The readbacks that a buffer takes: "The last place is now kept for it. A buffer of depth M takes M − 1
@@ -187,7 +187,7 @@ impl Board {
             (self.m > 1 && part.len() == self.capacity(), Did::end_word_part_of_full_buffer),
             (self.m == 1 && is_after_lost, Did::end_word_of_depth_1_part),
             (is_part_reset, Did::end_word_part_empty_after_reset),
-            // only in buffers lent in exchange or another channel's, or where a word was set behind the board
+            // a tagged readback, or in buffers lent in exchange or another channel's, or where a word was set behind the board
             (part.contains(&END_WORD), Did::end_word_in_part),
         ]);
     }

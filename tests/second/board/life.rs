@@ -1,8 +1,10 @@
 //! What happens on a channel of the board: "A channel's life" of document 01, whose quotations
 //! these are.
 
+use super::tag::Dropped;
 use super::Board;
-use crate::channel::{hold, status_of, Function, Hold, Sent, Window, ACTIVE, COUNT, EE, ENABLE, GE, ID, RUN, SWITCH};
+use crate::channel::{hold, status_of, Channel, Function, Hold, Sent, Window};
+use crate::channel::{ACTIVE, COUNT, EE, ENABLE, END, GE, ID, RUN, START, SWITCH, TAG};
 use crate::frame::frame;
 use crate::tally::Did;
 
@@ -12,7 +14,34 @@ pub struct Asked {
     pub start: bool,
     /// Resume 1–4, and 5 for Commands D1.
     pub resume: [bool; 6],
+    pub tag: bool,
     pub by_command: bool,
+}
+
+impl Asked {
+    /// "Event registers keep 9 bits: D8 active, D7–D0 code."
+    pub fn by_event(code: u8, ch: &Channel) -> Asked {
+        let is = |at: usize| ch.w[at] == 0x100 | code as u16;
+        let resume = [false, is(START + 1), is(START + 2), is(START + 3), is(START + 4), false];
+        Asked { group_end: is(END), start: is(START), resume, tag: is(TAG), by_command: false }
+    }
+    /// "Start (its event, or Commands D0)", "Commands D1 (VME pause only)", "Group End (event, or Commands D2)";
+    /// document 02, request 6: "A tag event or Commands D3".
+    pub fn by_command(value: u16) -> Asked {
+        let is = |bit: u16| value >> bit & 1 == 1;
+        let resume = [false, false, false, false, false, is(1)];
+        Asked { group_end: is(2), start: is(0), resume, tag: is(3), by_command: true }
+    }
+}
+
+/// "D31 first send of the function's first word, D30 paused, D29 last, D28–D26 user less 1"
+fn flags(is_first: bool, held: Option<Hold>, user: u32) -> u32 {
+    let kind = match held {
+        Some(Hold::Last) => 1 << 29,
+        Some(Hold::Pause(_)) => 1 << 30,
+        None => 0,
+    };
+    (is_first as u32) << 31 | kind | (user - 1) << 26
 }
 
 impl Board {
@@ -41,12 +70,13 @@ impl Board {
         }
     }
 
-    fn group_end(&mut self, c: usize, readbacks: &mut [u32]) {
+    fn group_end(&mut self, c: usize, asked: &Asked, readbacks: &mut [u32]) {
         self.tally.add(if self.ch[c].function.is_some() { Did::group_end_not_idle } else { Did::group_end_idle });
         if !self.ch[c].armed {
             self.tally.add(Did::group_end_disarmed);
         }
         self.watch_idling(c, Did::missing_idled_by_group_end, Did::missing_kept_over_group_end);
+        self.drop_tag(c, Dropped::GroupEnd(asked));
         self.end_function(c, Did::ee_by_group_end);
         self.command_at_group_end(c);
         self.write_end_word(c, readbacks);
@@ -105,6 +135,7 @@ impl Board {
                 self.tally.add(Did::restart_from_pause);
             }
             ch.function = Some(f);
+            self.watch_tag_kept(c, Did::tag_kept_over_restart);
         } else {
             ch.function = Some(f);
             self.tally.add(Did::run_latched);
@@ -126,6 +157,7 @@ impl Board {
                 f.resume = Some(now + delay + 10);
                 let names = [Did::resume_1, Did::resume_2, Did::resume_3, Did::resume_4, Did::resume_vme];
                 self.tally.add(names[k as usize - 1]);
+                self.watch_tag_kept(c, Did::tag_kept_over_resume);
             }
             _ => {}
         }
@@ -137,7 +169,7 @@ impl Board {
             self.tally.add(if asked.by_command { Did::group_end_by_command } else { Did::group_end_by_event });
             self.tally_command_due(c, &asked);
             self.tally_group_end(c, &asked, readbacks);
-            self.group_end(c, readbacks);
+            self.group_end(c, &asked, readbacks);
         }
         if asked.start {
             if asked.group_end && self.ch[c].armed {
@@ -154,6 +186,10 @@ impl Board {
             if asked.resume[k] {
                 self.resume(c, k as u32);
             }
+        }
+        // document 02, request 6: "Tag acts last within one event or command."
+        if asked.tag {
+            self.tag(c, &asked);
         }
     }
 
@@ -217,6 +253,7 @@ impl Board {
 
     pub(super) fn tick_channel(&mut self, c: usize, setpoints: &[u32]) -> Option<u64> {
         let is_next = self.due(c)?;
+        let sending = self.sending(c, is_next);
         self.look_back(c, is_next);
         let (now, user) = (self.now, self.user);
         let index = self.ch[c].function.as_ref()?.index;
@@ -224,22 +261,16 @@ impl Board {
         let word = if is_next { self.next_word(c, at, setpoints)? } else { self.repeat(c, at, setpoints)? };
         self.close_window(c, Window::ClosedBySetpoint);
         self.watch_send(c);
+        let is_tagged = self.use_tag(c, sending);
         let ch = &mut self.ch[c];
         let period = ch.period();
         let f = ch.function.as_mut()?;
         f.fresh = false;
         // "After a send the next follows one period later."
         f.due = now + period;
-        // "D31 first send of the function's first word, D30 paused, D29 last, D28–D26 user less 1"
-        let first = ((is_next && index == 0) as u32) << 31;
         let held = f.held.map(|(_, h)| h);
-        let kind = match held {
-            Some(Hold::Last) => 1 << 29,
-            Some(Hold::Pause(_)) => 1 << 30,
-            None => 0,
-        };
         let id = ch.w[ID] as u8;
-        f.sent = Some(Sent { tag: first | kind | (user - 1) << 26, id, replies: 0 });
+        f.sent = Some(Sent { flags: flags(is_next && index == 0, held, user), is_tagged, id, replies: 0 });
         // "The count takes every send, repeats too, and stays at FFFFFFh."
         ch.count = (ch.count + 1).min(0xFF_FFFF);
         // "the register's Frame ID, D15–D0 of the word, auxiliary 0"

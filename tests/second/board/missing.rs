@@ -14,7 +14,7 @@ fn shortfall(sent: Sent) -> u16 {
 
 impl Board {
     /// That of the channel's last send since idle; 0 if there is none.
-    fn shortfall(&self, c: usize) -> u16 {
+    pub(super) fn shortfall(&self, c: usize) -> u16 {
         self.ch[c].function.as_ref().and_then(|f| f.sent).map_or(0, shortfall)
     }
 
@@ -199,6 +199,7 @@ impl Board {
     /// Before a record of ticks.
     pub fn watch_record(&mut self) {
         self.watch.iter_mut().for_each(|w| w.record = Record::default());
+        self.watch_tag_record();
     }
 
     /// Before a channel is idled.
@@ -224,6 +225,7 @@ impl Board {
         for c in 0..4 {
             self.watch_cleared(c, before.ch[c].w[MISSING], Did::missing_cleared_by_opening);
         }
+        self.watch_tag_opening(before);
     }
 
     fn watch_cleared(&mut self, c: usize, count: u16, by: Did) {

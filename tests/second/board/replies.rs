@@ -12,6 +12,12 @@ pub enum Reply {
     Unasked,
 }
 
+/// The word that is kept of a reply: "D31–D26 describe the last send", "D24 CRC wrong, D23–D16 ID, D15–D0 data".
+/// Document 02, request 6: "Replies kept for that send have D25 set".
+fn stored_word(sent: Sent, reply: u64, wrong: bool) -> u32 {
+    sent.flags | (sent.is_tagged as u32) << 25 | (wrong as u32) << 24 | (reply >> 18) as u32 & 0x00FF_FFFF
+}
+
 impl Board {
     /// Why a reply is unasked, if it is: "A reply is kept if not idle, a setpoint was sent since
     /// idle, and fewer than six replies have followed the last such send; else it is "unasked"."
@@ -42,14 +48,14 @@ impl Board {
         self.tally_reply_after_window(c);
         if let Some(why) = self.unasked(c) {
             self.tally.add(why);
+            self.tally_tag_unasked(c, why);
             if wrong {
                 self.tally.add(Did::crc_wrong_unasked);
             }
             return Ok(Reply::Unasked);
         }
         self.watch_crc(c, reply);
-        // "D24 CRC wrong, D23–D16 ID, D15–D0 data"
-        let answer = self.store(c, (wrong as u32) << 24 | (reply >> 18) as u32 & 0x00FF_FFFF, readbacks);
+        let answer = self.store(c, reply, wrong, readbacks);
         // "A wrong CRC, kept or lost, latches CRC."
         if wrong {
             self.tally.add(if answer == Reply::Kept { Did::crc_wrong_kept } else { Did::crc_wrong_lost });
@@ -60,7 +66,7 @@ impl Board {
 
     /// A reply that is asked for: kept, or lost. "If the buffer is full it is "lost", and counts
     /// among the six."
-    fn store(&mut self, c: usize, low: u32, readbacks: &mut [u32]) -> Reply {
+    fn store(&mut self, c: usize, reply: u64, wrong: bool, readbacks: &mut [u32]) -> Reply {
         let (is_full, place) = (self.is_full(c), self.next_place(c));
         let ch = &mut self.ch[c];
         let active = ch.active_readback();
@@ -70,19 +76,20 @@ impl Board {
         }
         let sent = f.sent.as_mut().unwrap();
         sent.replies += 1;
-        // "D31–D26 describe the last send"
-        let (tag, replies) = (sent.tag, sent.replies);
+        let sent = *sent;
         if is_full {
-            self.tally_lost(c, replies);
+            self.tally_lost(c, sent.replies);
+            self.tally_tag_lost(sent, wrong);
             self.watch[c].lost += 1;
             return Reply::Lost;
         }
         self.tally_stored(c, readbacks[place]);
-        readbacks[place] = tag | low;
+        readbacks[place] = stored_word(sent, reply, wrong);
+        self.tally_tag_stored(c, sent, readbacks[place]);
         self.ch[c].stored[active] += 1;
         self.tally.add(Did::kept);
         for (bit, did) in [(31, Did::kept_first), (30, Did::kept_paused), (29, Did::kept_last)] {
-            if tag >> bit & 1 == 1 {
+            if sent.flags >> bit & 1 == 1 {
                 self.tally.add(did);
             }
         }
@@ -99,7 +106,9 @@ impl Board {
         let c = Board::channel(c)?;
         let is_second = self.ch[c].active_readback() == 0;
         let length = self.retired_count(c);
-        self.tally_part(c, &(if is_second { second } else { first })[..length]);
+        let part = &(if is_second { second } else { first })[..length];
+        self.tally_part(c, part);
+        self.tally_tag_part(c, part);
         Ok((is_second, length))
     }
 

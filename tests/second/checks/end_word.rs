@@ -2,7 +2,6 @@
 
 use super::{Done, Small};
 use crate::board::{Board, Reply};
-use crate::frame::frame;
 use crate::script;
 
 /// What stands in the lent readback words before a case.
@@ -24,9 +23,6 @@ impl Small {
         t.write(0x808, 1);
         t
     }
-    fn reply(&mut self, data: usize) -> Reply {
-        self.b.reply(1, frame(0x15, data as u16, 0), &mut self.r).unwrap()
-    }
     /// So many replies, numbered from 0, after as many sends as they need: how many of them are kept, the rest then lost.
     fn group(&mut self, replies: usize) -> Option<usize> {
         let said: Vec<Reply> = (0..replies)
@@ -39,16 +35,6 @@ impl Small {
             .collect();
         let kept = said.iter().take_while(|r| **r == Reply::Kept).count();
         said[kept..].iter().all(|r| *r == Reply::Lost).then_some(kept)
-    }
-    fn group_end(&mut self) {
-        self.write(0x808, 4);
-    }
-    /// Channel 1's retired part.
-    fn part(&mut self) -> Vec<u32> {
-        let m = self.b.m as usize;
-        let (first, second) = (&self.r[..m], &self.r[m..2 * m]);
-        let (is_second, length) = self.b.retired(1, first, second).unwrap();
-        (if is_second { second } else { first })[..length].to_vec()
     }
     /// The readback words are these, and no other was written.
     fn has(&self, words: &[u32]) -> bool {

@@ -5,6 +5,7 @@ use super::dice::Dice;
 use super::end_word::{end_word, fill};
 use super::missing::missing;
 use super::story::{delay, load, reply, ticks, word, Taste, BASE};
+use super::tag::tag;
 use super::world::{Op, World};
 use crate::board::Peek;
 
@@ -34,6 +35,9 @@ pub fn act(world: &mut World, d: &Dice, t: &Taste) {
     }
     let c = d.of(&t.channels);
     let s = Scene { d, t, c, p: world.board().peek(c as usize - 1), user: world.board().user };
+    if d.chance(t.tags) {
+        return tag(world, &s);
+    }
     let choice = if !s.p.armed {
         d.weighed(&[50, 0, 8, 6, 4, 0, 8, 6, 10, 12, 16, 3, 2])
     } else if s.p.idle {
@@ -72,7 +76,7 @@ pub fn event_for(world: &World, s: &Scene, offset: u32) -> Op {
 
 /// Start, by event or command, now and then with other command bits.
 fn start(world: &mut World, s: &Scene) {
-    let bits = s.d.of(&[1, 1, 1, 5, 3, 7, 0xFFF9]);
+    let bits = s.d.of(&[1, 1, 1, 5, 3, 7, 9, 0x0F, 0xFFF9]);
     let op = if s.d.chance(50) { event_for(world, s, 0x20) } else { Op::Write(s.at() + 8, bits) };
     world.put(op, s.d);
 }
@@ -92,7 +96,7 @@ fn replies(world: &mut World, s: &Scene) {
 
 fn group_end(world: &mut World, s: &Scene) {
     let d = s.d;
-    let op = if d.chance(60) { event_for(world, s, 0x2A) } else { Op::Write(s.at() + 8, d.of(&[4, 4, 5, 6, 7])) };
+    let op = if d.chance(60) { event_for(world, s, 0x2A) } else { Op::Write(s.at() + 8, d.of(&[4, 4, 5, 6, 7, 0x0C, 0x0D])) };
     if d.chance(40) {
         let who = if d.chance(60) { s.user } else { 1 + d.below(8) };
         world.put(Op::Write(s.at() + 0x30 + 2 * (who - 1), d.of(&[1, 1, 0xFFFF, 2])), d);
@@ -125,7 +129,7 @@ fn resume(world: &mut World, s: &Scene) {
         world.put(Op::Write(s.at() + 0x20 + 2 * k, 0x100 | own), d);
     }
     let op = match k {
-        0 | 5 => Op::Write(s.at() + 8, 2),
+        0 | 5 => Op::Write(s.at() + 8, d.of(&[2, 2, 2, 0x0A])),
         k => event_for(world, s, 0x20 + 2 * k),
     };
     world.put(op, d);

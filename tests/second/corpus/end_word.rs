@@ -62,9 +62,13 @@ fn is_full(world: &World, s: &Scene) -> bool {
     s.now(world).stored >= world.board().capacity()
 }
 
-/// Replies to a channel whose buffer is full: none, or up to six more.
+/// Replies to a channel whose buffer is full, now and then for a tagged send: none, or up to six more.
 fn lose(world: &mut World, s: &Scene) {
     let count = s.d.of(&[0, 0, 1, 1, 2, 6]);
+    if count > 0 && is_full(world, s) && s.d.chance(30) {
+        world.put(Op::Write(s.at() + 8, 8), s.d);
+        send(world, s);
+    }
     if count == 0 || !is_full(world, s) || (!is_reply_due(world, s) && !send(world, s)) {
         return;
     }

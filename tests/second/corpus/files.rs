@@ -3,7 +3,7 @@
 use super::crc::every_entry;
 use super::dice::Dice;
 use super::ramp::ramp_script;
-use super::story::{story, BASE, DEPTHS_M, DEPTHS_N};
+use super::story::{story, story_of_tags, BASE, DEPTHS_M, DEPTHS_N};
 use super::world::{run_record, Op, World};
 use std::fs;
 use std::path::Path;
@@ -81,6 +81,7 @@ fn run_file(d: &Dice, i: u32) -> Vec<u8> {
         3 => offsets(&mut world, d, BASE * (1 + i / 40 % 4)),
         4 => offsets(&mut world, d, 0),
         5 => story(&mut world, d, 1_500),
+        8..=10 => story_of_tags(&mut world, d, 12),
         _ => {
             let acts = d.of(&[20, 40, 80, 150]);
             story(&mut world, d, acts);
@@ -119,8 +120,12 @@ fn script_file(d: &Dice, i: u32) -> Vec<u8> {
         let (n, m) = (d.of(DEPTHS_N), d.of(DEPTHS_M));
         world.put(Op::Open { n, m, setpoints: 64 * n, readbacks: 8 * m }, d);
     }
-    let acts = d.of(&[20, 60, 120, 250]);
-    story(&mut world, d, acts);
+    if i % 20 == 5 {
+        story_of_tags(&mut world, d, 40);
+    } else {
+        let acts = d.of(&[20, 60, 120, 250]);
+        story(&mut world, d, acts);
+    }
     let mut bytes = world.bytes;
     if i % 50 == 49 {
         // no script

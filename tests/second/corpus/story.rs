@@ -27,6 +27,8 @@ pub struct Taste {
     /// Replies are sent until buffers are full.
     pub fills: bool,
     delays: u32,
+    /// Acts around tags, in percent.
+    pub tags: u32,
 }
 
 impl Taste {
@@ -48,7 +50,13 @@ impl Taste {
             quirks: d.of(&[0, 3, 10, 30]),
             fills: d.chance(25),
             delays: d.of(&[1, 12, 30, 60]),
+            tags: d.of(&[0, 3, 6]),
         }
+    }
+
+    /// Little but tags, with few words overwritten.
+    fn of_tags(d: &Dice) -> Taste {
+        Taste { quirks: 0, fills: false, tags: 85, clocks: &[3], ..Taste::new(d) }
     }
 }
 
@@ -96,7 +104,7 @@ pub fn delay(world: &mut World, d: &Dice, t: &Taste, c: u32, k: u32, user: u32) 
 fn prepare(world: &mut World, d: &Dice, t: &Taste, c: u32) {
     world.put(Op::Write(BASE * c + 0x0A, d.of(t.clocks)), d);
     world.put(Op::Write(BASE * c + 0x14, d.of(&[0x15, 0x15, 0x55, d.below(65_536) as u16])), d);
-    for offset in (0x20..=0x2A).step_by(2) {
+    for offset in (0x20..=0x2C).step_by(2) {
         if d.chance(85) {
             let active = if d.chance(92) { 0x100 } else { 0 };
             let code = d.of(&t.codes) as u16;
@@ -151,21 +159,28 @@ pub fn ticks(d: &Dice, t: &Taste, p: &Peek) -> Op {
 }
 
 pub fn story(world: &mut World, d: &Dice, acts: u32) {
-    let t = Taste::new(d);
+    story_of(world, d, &Taste::new(d), acts);
+}
+
+pub fn story_of_tags(world: &mut World, d: &Dice, acts: u32) {
+    story_of(world, d, &Taste::of_tags(d), acts);
+}
+
+fn story_of(world: &mut World, d: &Dice, t: &Taste, acts: u32) {
     world.put(Op::Write(0x22, d.of(&[1, 3, 7, 0xFFFF])), d);
     world.put(Op::Write(0x26, d.of(&[0xF0, 0xFFFF, 0x10, d.below(65_536) as u16])), d);
     for &c in &t.channels {
-        prepare(world, d, &t, c);
+        prepare(world, d, t, c);
     }
     for _ in 0..acts {
-        act(world, d, &t);
+        act(world, d, t);
         if world.is_script() && d.chance(1) {
             ramps(world, d, 5);
         }
         if world.is_script() && d.chance(2) {
             reopen(world, d);
             for &c in &t.channels {
-                prepare(world, d, &t, c);
+                prepare(world, d, t, c);
             }
         }
     }
@@ -201,6 +216,7 @@ fn reopen(world: &mut World, d: &Dice) {
                 Op::User(2), Op::Level, Op::Retired { c, length: true, lent: 0 }, Op::Retired { c, length: true, lent: 6 },
                 Op::Retired { c, length: false, lent: 0 }, Op::Disarm(c), Op::Write(BASE * c + 0xFC, 1), Op::Write(BASE * c + 0xFC, 2),
                 Op::Write(BASE * c + 0xE0, 0x0315), Op::Read(BASE * c + 0xE0), Op::Read(BASE * c + 0x0C),
+                Op::Write(BASE * c + 8, 8), Op::Write(BASE * c + 0x2C, 0x101), Op::Read(BASE * c + 0x2C),
             ]);
             world.put(op, d);
         }

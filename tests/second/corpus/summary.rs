@@ -93,20 +93,24 @@ fn refusals(runs: &Reach, calls: &Reach) -> Vec<String> {
     missing
 }
 
-/// What no run file does: its one board is opened once, of depth M 64, and no call shows a retired part.
-const OF_SCRIPTS: [&str; 11] = [
+/// What no run file does: its one board is opened once, of depth M 64, no call of it is lent a wrong length, and none
+/// shows a retired part.
+const OF_SCRIPTS: [&str; 19] = [
     "missing_cleared_by_opening", "end_word_of_closed_board",
     "end_word_of_depth_1_reply_lost", "end_word_of_depth_1_sixth_lost", "end_word_of_depth_1_after_lost",
     "end_word_of_depth_1_command_reply", "end_word_of_depth_1_part", "end_word_of_depth_2_in_last_place",
     "end_word_part_of_full_buffer", "end_word_part_empty_after_reset", "end_word_in_part",
+    "tag_event_refused", "tag_command_refused", "tag_dropped_by_opening",
+    "tag_in_part", "tag_word_like_end_word_in_part", "tag_words_like_end_word_in_part",
+    "tag_word_like_end_word_begins_part", "tag_word_like_end_word_ends_part",
 ];
 
 /// Prints what was done, and answers what was not. What a request adds to the board (command frames, missing readbacks,
-/// the end word) is asked of both kinds of files, which different programs read; ramps are of scripts alone.
+/// the end word, tags) is asked of both kinds of files, which different programs read; ramps are of scripts alone.
 fn done(runs: &Reach, calls: &Reach) -> Vec<String> {
     let mut missing = Vec::new();
     for ((name, in_runs), in_calls) in DID.iter().zip(&runs.did.counts).zip(&calls.did.counts) {
-        let is_of_a_request = ["command", "missing", "end_word"].iter().any(|request| name.starts_with(request));
+        let is_of_a_request = ["command", "missing", "end_word", "tag"].iter().any(|request| name.starts_with(request));
         let is_asked_of_both = is_of_a_request && !OF_SCRIPTS.contains(name);
         println!("{name} {in_runs} in run files, {in_calls} in scripts");
         if in_runs + in_calls == 0 || (is_asked_of_both && in_runs * in_calls == 0) {

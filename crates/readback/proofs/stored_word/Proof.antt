@@ -1,4 +1,4 @@
--- `readback::stored_word` meets its contract: flags, user, ID and data, each at its weight. Assumes nothing.
+-- `readback::stored_word` meets its contract: flags, user, tag, ID and data, each at its weight. Assumes nothing.
 use Rattle.readback.specs.Storing.{storedWord}
 use borrow.Author.Needs.{needs}
 use Rattle.readback.proofs.stored_word.Statement.{statement}
@@ -34,6 +34,12 @@ weigh-requires-4 c κs = search needs
 add-fields : tie.Need-add-fields
 add-fields c = search needs
 
+weigh-requires-5 : tie.Need-weigh-requires-5
+weigh-requires-5 c κs = search needs
+
+add-fields-2 : tie.Need-add-fields-2
+add-fields-2 c = search needs
+
 add-result : tie.Need-add-result
 add-result c = search needs
 
@@ -49,10 +55,11 @@ add-result-3 c = search needs
 returns : tie.Need-returns
 unfolding storedWord
 returns c =
-    let b = c .before in
+    let b = c .before .before in
     let s = b .before in
     simp (
-      c .weigh4 .ensures .0,
+      c .weigh5 .ensures .0,
+      c .before .weigh4 .ensures .0,
       b .zero-based .ensures,
       s .weigh3 .ensures .0,
       s .before .weigh2 .ensures .0,
@@ -73,6 +80,8 @@ stored-word-spec =
     mul-fields
     weigh-requires-4
     add-fields
+    weigh-requires-5
+    add-fields-2
     add-result
     mul-result
     add-result-2

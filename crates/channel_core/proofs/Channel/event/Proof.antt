@@ -1,4 +1,4 @@
--- `channel_core::Channel::event` meets its contract: Group End, then Start, then each Resume, by the registers as the event found them. Assumes nothing.
+-- `channel_core::Channel::event` meets its contract: Group End, then Start, then each Resume, then Tag, by the registers as the event found them. Assumes nothing.
 use Rattle.channel_core.specs.Behaviour.{eventOf, eventWords}
 use borrow.Author.Needs.{needs}
 use Rattle.channel_core.proofs.Channel.event.Statement.{statement}
@@ -22,17 +22,26 @@ start-if-requires c κs = search needs
 resume-on-requires : tie.Need-resume-on-requires
 resume-on-requires c κs = search needs
 
+triggers-requires-3 : tie.Need-triggers-requires-3
+triggers-requires-3 c κs = search needs
+
+tag-if-requires : tie.Need-tag-if-requires
+tag-if-requires c κs = search needs
+
 same-length : tie.Need-same-length
 same-length c = search needs
 
 returns : tie.Need-returns
 unfolding eventOf eventWords
 returns c =
-    let s = c .before .before in
+    let r = c .before .before in
+    let s = r .before .before in
     let e = s .before .before .before .before in (
       simp (
-        c .resume-on .ensures,
-        c .before .start-if .ensures,
+        c .tag-if .ensures,
+        c .before .triggers3 .ensures,
+        r .resume-on .ensures,
+        r .before .start-if .ensures,
         s .delay .ensures,
         s .before .triggers2 .ensures,
         e .end-if .ensures .0,
@@ -51,5 +60,7 @@ event-spec =
     delay-requires
     start-if-requires
     resume-on-requires
+    triggers-requires-3
+    tag-if-requires
     same-length
     returns)

@@ -1,4 +1,4 @@
--- `registers::Registers::triggers` meets its contract: the event's register holds the code, and past the six there is none to hold it. Assumes nothing.
+-- `registers::Registers::triggers` meets its contract: the event's register holds the code, and past the seven there is none to hold it. Assumes nothing.
 use lib.ListN.{length, length-map, List·getD-eq-default}
 use mathlib.Core.Path.{_≡_}
 use native.Mathlib.Omega.{arith}
@@ -7,8 +7,8 @@ use Rattle.registers.proofs.Registers.triggers.Statement.{statement}
 use Rattle.registers.proofs.Registers.triggers.Tie as tie
 
 -- what owning `self` tells of its events
-six : (c : tie.Start) → length (c .args .self .events) ≡ 6
-six c = simp length-map at (c .good .0 .1 .1 .1 .1 .1 .1 .0 .1 .0 .1)
+seven : (c : tie.Start) → length (c .args .self .events) ≡ 7
+seven c = simp length-map at (c .good .0 .1 .1 .1 .1 .1 .1 .0 .1 .0 .1)
 
 mul-holds : tie.Need-mul-holds
 mul-holds c = search needs
@@ -25,7 +25,7 @@ returns c = search needs
 returns-2 : tie.Need-returns-2
 returns-2 c =
     let s = c .before .before in
-    rw (List·getD-eq-default (s .args .self .events) 0 {n = s .args .event} (omega (arith, six s, c .if1 .left)))
+    rw (List·getD-eq-default (s .args .self .events) 0 {n = s .args .event} (omega (arith, seven s, c .if1 .left)))
 
 pub triggers-spec : {M : Type 1} → statement M
 triggers-spec = tie.close (tie.spec mul-holds array-read-holds holds-requires returns returns-2)
