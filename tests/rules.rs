@@ -55,8 +55,9 @@ const RECORDED: &[(&str, &str, usize, &str)] = &[
     (RULES, "card 3", 387, "9efba1c5c4f30da75ed0aa8e571a164f74016aa098153631a7c7bb34f2a8e345"),
     (RULES, "card 4", 1041, "d3df248576275e65ce8feac796f94d0427458e15a884c59fbc5c8dd5c96cf8a7"),
     (RULES, "card 5", 345, "ab694e216b2fd6b92f0f938b8a8f899bbc852fea7d7bf7b0216b4a8d0673b882"),
-    (DECISIONS, "document 01", 9125, "196dc2730af92d2b6b896d6fad832351c71522e33ae1b1d2cae3d29694f37fc6"),
-    (DECISIONS, "document 02", 2418, "17702465e41ce5b97cb3a5fa5747757ca42e3f50f49273715ccc028562b09c38"),
+    (RULES, "card 6", 554, "84165e231def2525be3eb65caf5f920939e1fc4a7aa66f7de94dbfc3bf0935b3"),
+    (DECISIONS, "document 01", 9194, "e453ee4886c3c8774c6a26603fb1782c2fb99f6de3021da49e12d595004fe593"),
+    (DECISIONS, "document 02", 2818, "ff90bff00b82fc294a47fb9804701b1b5c873fa9372d55eaf8f352ad39e2187f"),
 ];
 
 // The entries of DECISIONS.md that a page cites: "entry D1", "Entry D1", "entries D1 (..) and D2", "entries D1 to D2".
