@@ -26,7 +26,6 @@ impl Channel {
         word_at(setpoints, at)
     }
 
-    // One tick: the sequencer's, what a send latches and shows, and a command frame that is due.
     pub fn tick(self, setpoints: &[u32], n: u32, user: u8) -> Ticked
         ensures { λ r. ⌜ (r .channel ≡ tickOf self (now (setpoints .entry)) n user) × (lineOf (r .line) ≡ tickAnswer self (now (setpoints .entry)) n user) ⌝ }
     {

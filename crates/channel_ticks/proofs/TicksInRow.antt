@@ -18,7 +18,7 @@ use Rattle.sequencer.specs.declared.Transmission.the-variants as transmission
 use Rattle.sequencer.specs.declared.Ticked as t
 use Rattle.sequencer.specs.Playing.{ticked, withMissing, missingWith}
 use Rattle.sequencer.specs.Runs.{holds, asNumber, missingAfter}
-use Rattle.sequencer.proofs.Moves.{sends}
+use Rattle.sequencer.proofs.Moves.{moved}
 use Rattle.channel_core.specs.declared.Channel.{Channel}
 use Rattle.channel_core.specs.Answers.{Answer, isFrame}
 use Rattle.channel_core.specs.Answers as ans
@@ -206,7 +206,7 @@ module _ (s : List ℕ) (n user : ℕ) where
       = sym (simp (d, e, i)) ∙ ticked-counting q (missingWith before (q .missing)) due n p id in
       let w = withReceiving (c .commands) on in
       let r = receiving-next (c .commands .receiving) f f' sent g in
-      let missing : q' .missing ≡ missingAfter sent (q .last) (q .missing) = ap (λ (z : Sequencer). z .missing) b ∙ sends q due n p id .missing in
+      let missing : q' .missing ≡ missingAfter sent (q .last) (q .missing) = ap (λ (z : Sequencer). z .missing) b ∙ moved q due n p id .missing in
       let status : sendStatus (latchedBy (c .status) (q .missing) condition) (q .last) sent ≡ latchedBy (c .status) (q' .missing) condition'
       = latched-next (c .status) (q .missing) condition (q .last) sent (alone q due n p id condition (x .once)) ∙ simp (missing, a) in
       let count : missingAfter sent (q .last) (missingWith before (q .missing)) ≡ missingWith before (q' .missing)

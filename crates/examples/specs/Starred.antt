@@ -14,7 +14,7 @@ use Rattle.readback.specs.Storing.{storedWord}
 use Rattle.channel_core.specs.Answers.{Answer}
 use Rattle.channel.specs.OneChannel.{OneChannel, transition}
 use Rattle.timing.specs.Ticking.{after, onTick, wordAt, between, frameOf, NextSetpoint}
-use Rattle.timing.specs.Timing.{command, eventCall, triggeredBy, delay, OnlyResumes}
+use Rattle.timing.specs.Timing.{command, eventCall, triggeredBy, delay, NeitherEndsNorStarts}
 
 -- ---- Frames
 
@@ -57,7 +57,7 @@ pub record PauseOne (o : OneChannel) (code : ℕ) : Type 0 where
   pub last-bit : bitAt (wordAt o 0) 31 ≡ false
   pub deep : 2 ≤ o .n
   pub resume-1 : triggeredBy o 1 code ≡ true
-  pub resume-only : OnlyResumes o code
+  pub resume-only : NeitherEndsNorStarts o code
 
 -- "sent on tick 10": started by command, and ten ticks later; "then loaded": then the event
 abbrev pub started : OneChannel → OneChannel

@@ -16,7 +16,7 @@ use Rattle.sequencer.specs.declared.Transmission.the-variants as transmission
 use Rattle.sequencer.specs.Playing.{isIdle, nothingSent, counted, shortfall, missingWith, withMissing, answered, ticked}
 use Rattle.sequencer.specs.Playing as seq
 use Rattle.sequencer.specs.Runs.{countAfter, missingAfter}
-use Rattle.sequencer.proofs.Moves.{sends}
+use Rattle.sequencer.proofs.Moves.{moved}
 use Rattle.readback.specs.declared.Disposition.{Disposition}
 use Rattle.readback.specs.declared.Disposition.the-variants as disposition
 use Rattle.readback.specs.Storing.{dispositionOf, capacity}
@@ -184,7 +184,7 @@ pub tick-steps : (n : ℕ) (s : Sequencer) (f : CommandFrames) (takes : Bool) (i
 tick-steps n s f takes id due p some apart =
     let x = ticked s due n p id .transmission in
     let a = plays-ticked s due n p id in
-    let c = sends s due n p id in
+    let c = moved s due n p id in
     let sent = line-sends id f x apart in
     record {
       count-step = c .count ∙ count-sent x (s .count) ∙ sym (ap (λ (b : Bool). cond b (counted (s .count)) (s .count)) sent);

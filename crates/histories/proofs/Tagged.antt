@@ -1,67 +1,93 @@
--- What each call makes of tags, by what it answers and from any state with seven event registers. Assumes nothing.
-use Prim.Native.Nat.{ℕ, _-_, _*_, _/_, _%_}
-use mathlib.Core.Path.{_≡_, refl, sym, _∙_, ap}
-use mathlib.Core.Bool.{Bool, true, false, cond, not, _&&_, _||_}
+-- What each call makes of tags, by what it answers and from any state: a channel goes on to hold what is told. Assumes nothing.
+use Prim.Native.Nat.{ℕ, _-_, _/_, _%_}
+use mathlib.Core.Path.{_≡_, refl, sym, _∙_, ap, subst}
+use mathlib.Core.Bool.{Bool, true, false, cond, not, _&&_, _||_, and-false}
+use mathlib.Core.List.{List}
 use native.Mathlib.Omega.{arith}
 use lib.Dec.{eqb, leb, ltb}
-use lib.ListN.{length, getD}
-use lib.Seq.{getD-set-same, getD-set-other}
-use borrow.Author.Tests.{eqb-true, eqb-false, ltb-true, ltb-false}
+use lib.ListN.{getD, set}
+use borrow.Author.Tests.{leb-true, le-leb, le-ltb, ltb-true, ltb-false}
 use Rattle.frame.specs.Frames.{Reading, read, crcRight}
 use Rattle.frame.specs.Frames as frame
 use Rattle.status.specs.Bits.{bitAt}
-use Rattle.register_map.specs.AccessRule.{channelAccess}
-use Rattle.register_map.specs.AccessRefusals.{writeRefusal}
-use Rattle.register_map.proofs.Laws.{channel-mapped}
 use Rattle.registers.specs.declared.Registers.{Registers}
-use Rattle.registers.specs.Map.{periodOf, tagEvent, groupEndEvent, triggersOf, stored}
+use Rattle.registers.specs.Map.{periodOf, matches, startEvent, tagEvent, groupEndEvent, triggersOf, delayOf, stored}
 use Rattle.registers.specs.Map as reg
+use Rattle.registers.proofs.Places.{event-stored}
 use Rattle.sequencer.specs.declared.Sequencer.{Sequencer}
 use Rattle.sequencer.specs.declared.Transmission.{Transmission}
 use Rattle.sequencer.specs.declared.Transmission.the-variants as transmission
 use Rattle.sequencer.specs.Playing.{isIdle, withTag}
 use Rattle.sequencer.specs.Playing as seq
 use Rattle.sequencer.specs.Runs.{tagAfter, usedAfter}
-use Rattle.sequencer.proofs.Moves.{sends, resumed-either}
+use Rattle.sequencer.proofs.Moves.{moved, resumed-either}
 use Rattle.readback.specs.declared.Disposition.{Disposition}
 use Rattle.readback.specs.declared.Disposition.the-variants as disposition
 use Rattle.command_frames.specs.Commanding.{isDue, takes}
 use Rattle.command_frames.specs.Commanding as cmd
 use Rattle.channel_core.specs.declared.Channel.{Channel}
-use Rattle.channel_core.specs.Answers.{Answer, isRefusal, isFrame, refused}
+use Rattle.channel_core.specs.Answers.{Answer, isFrame, isRefusal, refused}
 use Rattle.channel_core.specs.State.{reset, withRegisters, withSequencer, withCommands}
 use Rattle.channel_core.specs.Behaviour.{started, startedIf, groupEnded, endedIf, resumedIf, resumedOn, eventOf, commanded, userChanged, isSetpoint, dueOf, playedOf, tickOf, tickAnswer}
 use Rattle.channel_core.specs.Behaviour as core
 use Rattle.channel_replies.specs.Replying.{dispositionNow, receivedChannel, replyAs, replyOf}
-use Rattle.channel_registers.specs.Calls.{registerRefusal, registerEffect, readEffect}
+use Rattle.channel_registers.specs.Calls.{registerEffect, readEffect}
 use Rattle.channel.specs.Calls.{armedOf, disarmedOf, mainTaken}
-use Rattle.channel.specs.OneChannel.{ChannelCall, OneChannel, lengthRefusal, refusalOf, effect, answer, transition, response, mainRead, withUser, withChannel}
+use Rattle.channel.specs.OneChannel.{ChannelCall, OneChannel, refusalOf, effect, answer, transition, response, mainRead, userChange}
 use Rattle.channel.specs.OneChannel as call
-use Rattle.channel.proofs.Cases.{either, by-test}
-use Rattle.histories.specs.TagChanges.{Tags, TagChange, noTags, leavesTags, droppedIf, taggedIf, idledIf, eventTags, commandTags, registerWritten, writtenTags, sentTags}
+use Rattle.channel.proofs.Cases.{clash, either, by-test}
+use Rattle.histories.specs.TagChanges.{Tags, TagChange, openedTags, leavesTags, groupEndedIf, taggedIf, eventTags, commandTags, eventWritten, writtenTags, sentTags}
+use Rattle.histories.specs.Windows.{Window}
 use Rattle.histories.specs.History.{asks}
 use Rattle.histories.specs.Tags.{tagsAfter}
-use Rattle.histories.proofs.Accepted.{then-passed, query-plain, reply-plain, accepted-answer}
+use Rattle.histories.proofs.Accepted.{query-plain, reply-plain, accepted-answer}
 use Rattle.histories.proofs.Apart.{ApartIn, apart-nothing}
 use Rattle.histories.proofs.Buffered.{toldAt}
 use Rattle.histories.proofs.Calls.{main-plain}
-use Rattle.histories.proofs.Cases.{at-or-not, by-offset}
+use Rattle.histories.proofs.Cases.{by-offset}
 use Rattle.histories.proofs.Steps.{line-sends}
+use Rattle.histories.proofs.Ticks.{windowOf, windowSent, plays-ticked}
 
--- what a channel holds of tags
-abbrev pub tagsOf : Channel → Tags
-tagsOf c =
-    record { armed = c .sequencer .armed; register = getD (c .registers .events) tagEvent 0; pending = c .sequencer .tag; used = c .sequencer .last .tagged }
+-- what of a channel concerns tags
+pub record View : Type 0 where
+  pub armed : Bool
+  pub events : List ℕ
+  pub tag : Bool
+  pub sent : Bool
+  pub tagged : Bool
+
+abbrev pub view : Channel → View
+view c =
+    record {
+      armed = c .sequencer .armed;
+      events = c .registers .events;
+      tag = c .sequencer .tag;
+      sent = c .sequencer .last .sent;
+      tagged = c .sequencer .last .tagged;
+    }
+
+-- it is as told, the mark of the last send where there is one since idle
+pub record AsTold (v : View) (g : Tags) : Type 0 where
+  pub armed : v .armed ≡ g .armed
+  pub events : v .events ≡ g .events
+  pub tag : v .tag ≡ g .tag
+  pub tagged : v .sent ≡ true → v .tagged ≡ g .tagged
+
+abbrev pub Held : Channel → Tags → Type 0
+Held c g = AsTold (view c) g
 
 abbrev Same : Channel → Channel → Type 0
-Same c d = tagsOf d ≡ tagsOf c
+Same c d = view d ≡ view c
+
+same-held : (c d : Channel) (g : Tags) → Same c d → Held c g → Held d g
+same-held c d g e h = subst (λ (v : View). AsTold v g) (sym e) h
 
 -- ---- An event or command
 
-tags-ended : (on : Bool) (c : Channel) → tagsOf (endedIf on c) ≡ droppedIf on (tagsOf c)
+held-ended : (on : Bool) (c : Channel) (g : Tags) → Held c g → Held (endedIf on c) (groupEndedIf on g)
 unfolding endedIf groupEnded seq.groupEnded seq.idled reg.groupEnded
-tags-ended true c = refl
-tags-ended false c = refl
+held-ended true c g h = record { armed = h .armed; events = h .events; tag = refl; tagged = λ e. clash e }
+held-ended false c g h = record { armed = h .armed; events = h .events; tag = h .tag; tagged = h .tagged }
 
 same-started : (on : Bool) (c : Channel) (delay : ℕ) → Same c (startedIf on c delay)
 unfolding startedIf started seq.started
@@ -75,88 +101,100 @@ unfolding resumedIf
 same-resumed true c pause delay = resumed-either (λ (s : Sequencer). Same c (withSequencer c s)) (c .sequencer) pause delay refl refl
 same-resumed false c pause delay = refl
 
-tags-tagged : (on : Bool) (c : Channel) → tagsOf (core.taggedIf on c) ≡ taggedIf on (tagsOf c)
+held-tagged : (on : Bool) (c : Channel) (g : Tags) → Held c g → Held (core.taggedIf on c) (taggedIf on g)
 unfolding core.taggedIf seq.tagged
-tags-tagged true c = go (c .sequencer .armed)
+held-tagged true c g h = go (c .sequencer .armed) refl
   where
-    go : (b : Bool)
-        → tagsOf (withSequencer c (cond b (withTag (c .sequencer) true) (c .sequencer)))
-        ≡ record {
-          armed = c .sequencer .armed;
-          register = getD (c .registers .events) tagEvent 0;
-          pending = b || c .sequencer .tag;
-          used = c .sequencer .last .tagged;
-        }
-    go true = refl
-    go false = refl
-tags-tagged false c = refl
+    go : (b : Bool) → c .sequencer .armed ≡ b → Held (withSequencer c (cond b (withTag (c .sequencer) true) (c .sequencer))) (taggedIf true g)
+    go true e =
+        record { armed = h .armed; events = h .events; tag = sym (ap (λ (x : Bool). x || g .tag) (sym (h .armed) ∙ e)); tagged = h .tagged }
+    go false e =
+        record { armed = h .armed; events = h .events; tag = h .tag ∙ sym (ap (λ (x : Bool). x || g .tag) (sym (h .armed) ∙ e)); tagged = h .tagged }
+held-tagged false c g h = record { armed = h .armed; events = h .events; tag = h .tag; tagged = h .tagged }
 
-tags-event : (c : Channel) (user code : ℕ) → tagsOf (eventOf c user code) ≡ eventTags (triggersOf (c .registers) groupEndEvent code) code (tagsOf c)
+held-event : (c : Channel) (user code : ℕ) (g : Tags) → Held c g → Held (eventOf c user code) (eventTags code g)
 unfolding eventOf resumedOn
-tags-event c user code =
-    tags-tagged _ _
-    ∙ ap (taggedIf (triggersOf (c .registers) tagEvent code))
-    (same-resumed _ _ _ _ ∙ same-resumed _ _ _ _ ∙ same-resumed _ _ _ _ ∙ same-resumed _ _ _ _ ∙ same-started _ _ _ ∙ tags-ended _ c)
+held-event c user code g h =
+    let r = c .registers in
+    let ends = triggersOf r groupEndEvent code in
+    let e = endedIf ends c in
+    let d = resumedOn r (startedIf (triggersOf r startEvent code) e (delayOf r 0 user)) user code in
+    subst (Held (eventOf c user code))
+    (ap (λ (l : List ℕ). taggedIf (matches (getD l tagEvent 0) code) (groupEndedIf (matches (getD l groupEndEvent 0) code) g)) (h .events))
+    (held-tagged (triggersOf r tagEvent code) d (groupEndedIf ends g)
+    (same-held e d (groupEndedIf ends g)
+    (same-resumed _ _ _ _ ∙ same-resumed _ _ _ _ ∙ same-resumed _ _ _ _ ∙ same-resumed _ _ _ _ ∙ same-started _ _ _)
+    (held-ended ends c g h)))
 
-tags-command : (c : Channel) (value : ℕ) → tagsOf (commanded c value) ≡ commandTags value (tagsOf c)
+held-command : (c : Channel) (value : ℕ) (g : Tags) → Held c g → Held (commanded c value) (commandTags value g)
 unfolding commanded
-tags-command c value =
-    tags-tagged _ _ ∙ ap (taggedIf (bitAt value 3)) (same-resumed _ _ _ _ ∙ same-started _ _ _ ∙ tags-ended _ c)
+held-command c value g h =
+    let e = endedIf (bitAt value 2) c in
+    let d = resumedIf (bitAt value 1) (startedIf (bitAt value 0) e 0) 0 0 in
+    let ended = groupEndedIf (bitAt value 2) g in
+    held-tagged (bitAt value 3) d ended
+    (same-held e d ended (same-resumed _ _ _ _ ∙ same-started _ _ _) (held-ended (bitAt value 2) c g h))
 
 -- ---- A register write or read
 
--- a write that is not refused is at an even offset
-even : (c : Channel) (offset value : ℕ) → registerRefusal c offset value ≡ 0 → offset % 2 ≡ 0
-unfolding registerRefusal
-even c offset value e =
-    channel-mapped offset (λ none. let f = then-passed (writeRefusal (channelAccess offset)) _ e .0 in omega (arith, sym (ap writeRefusal none) ∙ f)) .0
-
--- one at another register leaves 2C
-stored-other : (r : Registers) (offset value : ℕ) → offset % 2 ≡ 0 → eqb offset 0x2c ≡ false
-    → getD (stored r offset value .events) tagEvent 0 ≡ getD (r .events) tagEvent 0
+stored-events : (r : Registers) (offset value : ℕ)
+    → stored r offset value .events
+    ≡ cond (leb 0x20 offset && ltb offset 0x2e) (set (r .events) ((offset - 0x20) / 2) (value % 512)) (r .events)
 unfolding stored
-stored-other r offset value whole differs =
-    let P : Registers → Type 0 = λ x. getD (x .events) tagEvent 0 ≡ getD (r .events) tagEvent 0 in
-    either P (eqb offset 0x0a) refl
-    (either P (eqb offset 0x14) refl
-    (by-test P (ltb offset 0x20) (λ a. refl)
-    (λ a.
-    by-test P (ltb offset 0x2e)
-    (λ b.
-    getD-set-other (r .events) ((offset - 0x20) / 2) tagEvent (value % 512) 0
-    (λ e. eqb-false offset 0x2c differs (omega (arith, ltb-false offset 0x20 a, ltb-true offset 0x2e b))))
-    (λ b.
-    either P (ltb offset 0x30) refl
-    (either P (ltb offset 0x40) refl (either P (ltb offset 0xe0) refl refl))))))
-
-tags-register : (c : Channel) (offset value : ℕ) → length (c .registers .events) ≡ 7 → offset % 2 ≡ 0
-    → tagsOf (registerEffect c offset value) ≡ writtenTags offset value (tagsOf c)
-unfolding registerEffect reset stored
-tags-register c offset value seven whole =
-    by-offset P offset refl (again (bitAt value 0)) (tags-command c value)
-    (λ d e f.
-    at-or-not P 0x2c offset
-    (with-register (value % 512) (getD-set-same (c .registers .events) tagEvent (value % 512) 0 (omega arith)))
-    (λ g.
-    rw (d, e, f, g)
-    (either (Same c) (leb 0xe0 offset) refl
-    (with-register (getD (c .registers .events) tagEvent 0) (stored-other (c .registers) offset value whole g)))))
+stored-events r offset value = go (leb 0x20 offset) (ltb offset 0x2e) refl refl
   where
-    P : ℕ → Type 0
-    P x = tagsOf (registerEffect c x value) ≡ writtenTags x value (tagsOf c)
+    P : Registers → Type 0
+    P x = x .events ≡ r .events
 
-    again : (b : Bool) → tagsOf (cond b (reset c) c) ≡ cond b noTags (tagsOf c)
-    again true = refl
-    again false = refl
+    -- below 20, or from 2E on
+    other : (ltb offset 0x20 ≡ false → ltb offset 0x2e ≡ false) → P (stored r offset value)
+    other past =
+        either P (eqb offset 0x0a) refl
+        (either P (eqb offset 0x14) refl
+        (by-test P (ltb offset 0x20) (λ a. refl)
+        (λ a.
+        by-test P (ltb offset 0x2e) (λ b. clash (sym (past a) ∙ b))
+        (λ b. either P (ltb offset 0x30) refl (either P (ltb offset 0x40) refl (either P (ltb offset 0xe0) refl refl))))))
 
-    with-register : {v : ℕ} (w : ℕ) → v ≡ w
-        → _≡_ {A = Tags}
-        (record { armed = c .sequencer .armed; register = v; pending = c .sequencer .tag; used = c .sequencer .last .tagged })
-        (record { armed = c .sequencer .armed; register = w; pending = c .sequencer .tag; used = c .sequencer .last .tagged })
-    with-register w e =
-        ap
-        (λ (x : ℕ). record { armed = c .sequencer .armed; register = x; pending = c .sequencer .tag; used = c .sequencer .last .tagged })
-        e
+    go : (low high : Bool) → leb 0x20 offset ≡ low → ltb offset 0x2e ≡ high
+        → stored r offset value .events ≡ cond (low && high) (set (r .events) ((offset - 0x20) / 2) (value % 512)) (r .events)
+    go true true d e = ap (λ (x : Registers). x .events) (event-stored r offset (leb-true 0x20 offset d) (ltb-true offset 0x2e e) value)
+    go true false d e = other (λ a. e)
+    go false high d e = other (λ a. clash (sym d ∙ le-leb 0x20 offset (ltb-false offset 0x20 a)))
+
+held-register : (c : Channel) (offset value : ℕ) (g : Tags) → Held c g → Held (registerEffect c offset value) (writtenTags offset value g)
+unfolding registerEffect reset
+held-register c offset value g h =
+    by-offset (λ (x : ℕ). Held (registerEffect c x value) (writtenTags x value g)) offset h (again (bitAt value 0)) (held-command c value g h)
+    (λ d e f. rw (d, e, f) (kept (leb 0x20 offset && ltb offset 0x2e) refl))
+  where
+    again : (b : Bool) → Held (cond b (reset c) c) (cond b openedTags g)
+    again true = record { armed = refl; events = refl; tag = refl; tagged = λ e. clash e }
+    again false = h
+
+    kept : (b : Bool) → (leb 0x20 offset && ltb offset 0x2e) ≡ b
+        → Held (cond (leb 0xe0 offset) (withCommands c (cmd.stored (c .commands) offset value)) (withRegisters c (stored (c .registers) offset value)))
+        (cond b (eventWritten offset value g) g)
+    kept b e =
+        by-test (λ (x : Channel). Held x (cond b (eventWritten offset value g) g)) (leb 0xe0 offset)
+        (λ far. commands b e (below far))
+        (λ near. registers b (stored-events (c .registers) offset value ∙ ap (λ (x : Bool). cond x (written (c .registers .events)) (c .registers .events)) e))
+      where
+        written : List ℕ → List ℕ
+        written l = set l ((offset - 0x20) / 2) (value % 512)
+
+        below : leb 0xe0 offset ≡ true → ltb offset 0x2e ≡ false
+        below far = le-ltb offset 0x2e (omega (arith, leb-true 0xe0 offset far))
+
+        commands : (b : Bool) → (leb 0x20 offset && ltb offset 0x2e) ≡ b → ltb offset 0x2e ≡ false
+            → Held (withCommands c (cmd.stored (c .commands) offset value)) (cond b (eventWritten offset value g) g)
+        commands true e far = clash (sym (and-false (leb 0x20 offset)) ∙ ap (λ (x : Bool). leb 0x20 offset && x) (sym far) ∙ e)
+        commands false e far = record { armed = h .armed; events = h .events; tag = h .tag; tagged = h .tagged }
+
+        registers : (b : Bool) → stored (c .registers) offset value .events ≡ cond b (written (c .registers .events)) (c .registers .events)
+            → Held (withRegisters c (stored (c .registers) offset value)) (cond b (eventWritten offset value g) g)
+        registers true e = record { armed = h .armed; events = e ∙ ap written (h .events); tag = h .tag; tagged = h .tagged }
+        registers false e = record { armed = h .armed; events = e ∙ h .events; tag = h .tag; tagged = h .tagged }
 
 same-read : (c : Channel) (offset : ℕ) → Same c (readEffect c offset)
 unfolding readEffect
@@ -182,71 +220,94 @@ same-reply c m f = go (read f)
     go (frame.refused k) = refl
     go (frame.fields id word aux crc) = either (Same c) (takes (c .commands)) refl (disposed (dispositionNow c m) (crcRight id word aux crc))
 
--- a setpoint send uses the tag
-sent-by : (x : Transmission) (g : Tags)
-    → record { armed = g .armed; register = g .register; pending = tagAfter x (g .pending); used = usedAfter x (g .pending) (g .used) }
-    ≡ cond (isSetpoint x) (sentTags g) g
-sent-by transmission.Nothing g = refl
-sent-by (transmission.Word word k) g = refl
-
-tags-tick : (o : OneChannel) → ApartIn (o .channel)
-    → let c = o .channel in
-    tagsOf (tickOf c (o .setpoints) (o .n) (o .user))
-    ≡ cond (isFrame (tickAnswer c (o .setpoints) (o .n) (o .user)) && not (isDue (c .commands .waiting))) (sentTags (tagsOf c)) (tagsOf c)
-unfolding tickOf tickAnswer
-tags-tick o p =
+-- a setpoint send uses the tag, and a tick that sends none leaves all
+held-played : (o : OneChannel) (g : Tags) → Held (o .channel) g
+    → (x : Transmission) → playedOf (o .channel) (o .setpoints) (o .n) (o .user) .transmission ≡ x
+    → Held (tickOf (o .channel) (o .setpoints) (o .n) (o .user)) (cond (isSetpoint x) (sentTags g) g)
+unfolding tickOf
+held-played o g h transmission.Nothing e =
     let c = o .channel in
-    let t = playedOf c (o .setpoints) (o .n) (o .user) in
-    let a = sends (c .sequencer) (dueOf c (o .setpoints) (o .n) (o .user)) (o .n) (periodOf (c .registers .clock)) (c .registers .id) in
-    rw (a .armed, a .tag, a .used)
-    (sent-by (t .transmission) (tagsOf c)
-    ∙ ap (λ (b : Bool). cond b (sentTags (tagsOf c)) (tagsOf c))
-    (sym (line-sends (c .registers .id) (c .commands) (t .transmission) (apart-nothing c (o .setpoints) (o .n) (o .user) p))))
+    let s = c .sequencer in
+    let due = dueOf c (o .setpoints) (o .n) (o .user) in
+    let a = moved s due (o .n) (periodOf (c .registers .clock)) (c .registers .id) in
+    let window = plays-ticked s due (o .n) (periodOf (c .registers .clock)) (c .registers .id) .window in
+    record {
+      armed = a .armed ∙ h .armed;
+      events = h .events;
+      tag = a .tag ∙ ap (λ (x : Transmission). tagAfter x (s .tag)) e ∙ h .tag;
+      tagged =
+          λ sent.
+          a .used
+          ∙ ap (λ (x : Transmission). usedAfter x (s .tag) (s .last .tagged)) e
+          ∙ h
+          .tagged (sym (ap (λ (w : Window). w .sent) (window ∙ ap (λ (x : Transmission). windowSent (c .registers .id) x (windowOf s)) e)) ∙ sent);
+    }
+held-played o g h (transmission.Word word k) e =
+    let c = o .channel in
+    let s = c .sequencer in
+    let a = moved s (dueOf c (o .setpoints) (o .n) (o .user)) (o .n) (periodOf (c .registers .clock)) (c .registers .id) in
+    record {
+      armed = a .armed ∙ h .armed;
+      events = h .events;
+      tag = a .tag ∙ ap (λ (x : Transmission). tagAfter x (s .tag)) e;
+      tagged = λ sent. a .used ∙ ap (λ (x : Transmission). usedAfter x (s .tag) (s .last .tagged)) e ∙ h .tag;
+    }
 
-tags-user : (o : OneChannel) (user : ℕ) → tagsOf (call.userChange o user .channel) ≡ idledIf (not (eqb user (o .user))) (tagsOf (o .channel))
+held-tick : (o : OneChannel) (g : Tags) → ApartIn (o .channel) → Held (o .channel) g
+    → let c = o .channel in
+    Held (tickOf c (o .setpoints) (o .n) (o .user))
+    (cond (isFrame (tickAnswer c (o .setpoints) (o .n) (o .user)) && not (isDue (c .commands .waiting))) (sentTags g) g)
+unfolding tickAnswer
+held-tick o g p h =
+    let c = o .channel in
+    let x = playedOf c (o .setpoints) (o .n) (o .user) .transmission in
+    subst (λ (b : Bool). Held (tickOf c (o .setpoints) (o .n) (o .user)) (cond b (sentTags g) g))
+    (sym (line-sends (c .registers .id) (c .commands) x (apart-nothing c (o .setpoints) (o .n) (o .user) p)))
+    (held-played o g h x refl)
+
+held-user : (o : OneChannel) (user : ℕ) (g : Tags) → Held (o .channel) g → Held (userChange o user .channel) g
 unfolding userChanged seq.idled
-tags-user o user = go (eqb user (o .user))
-  where
-    go : (b : Bool) → tagsOf (cond b o (withUser (withChannel o (userChanged (o .channel))) user) .channel) ≡ idledIf (not b) (tagsOf (o .channel))
-    go true = refl
-    go false = refl
+held-user o user g h =
+    either (λ (x : OneChannel). Held (x .channel) g) (eqb user (o .user)) h
+    (record { armed = h .armed; events = h .events; tag = h .tag; tagged = λ e. clash e })
 
 -- ---- Each call
 
 -- by an answer: a setpoint's frame, or what the call makes of tags
-abbrev by : Channel → Answer → TagChange → Tags
-by c a change = cond (isFrame a && not (isDue (c .commands .waiting))) (sentTags (tagsOf c)) (change (tagsOf c))
+abbrev by : Channel → Answer → TagChange → Tags → Tags
+by c a change g = cond (isFrame a && not (isDue (c .commands .waiting))) (sentTags g) (change g)
 
-plain : (c d : Channel) (a : Answer) (change : TagChange) → isFrame a ≡ false → tagsOf d ≡ change (tagsOf c) → tagsOf d ≡ by c a change
-plain c d a change none e = rw none e
+plain : (c d : Channel) (a : Answer) (g : Tags) → isFrame a ≡ false → Same c d → Held c g → Held d (by c a leavesTags g)
+plain c d a g none e h = rw none (same-held c d g e h)
 
-effect-tags : (o : OneChannel) (k : ChannelCall) → refusalOf o k ≡ 0 → ApartIn (o .channel) → length (o .channel .registers .events) ≡ 7
-    → tagsOf (effect o k .channel) ≡ by (o .channel) (answer o k) (asks o k .tags)
-unfolding refusalOf effect answer armedOf seq.armed disarmedOf seq.disarmed seq.idled
-effect-tags o (call.writeRegister lent offset value) e p l =
-    tags-register (o .channel) offset value l
-    (even (o .channel) offset value (then-passed (lengthRefusal lent (o .m * 8)) (registerRefusal (o .channel) offset value) e .1))
-effect-tags o (call.readRegister offset) e p l = same-read (o .channel) offset
-effect-tags o (call.writeSetpoint lent user buffer index word) e p l = refl
-effect-tags o call.arm e p l = refl
-effect-tags o call.disarm e p l = refl
-effect-tags o (call.reply lent f) e p l =
-    plain (o .channel) (replyOf (o .channel) (o .m) f) (answer o (call.reply lent f)) leavesTags (reply-plain (o .channel) (o .m) f) (same-reply (o .channel) (o .m) f)
-effect-tags o (call.query which one two) e p l = plain (o .channel) (o .channel) (answer o (call.query which one two)) leavesTags (query-plain o which .1) refl
-effect-tags o (call.tick lent) e p l = tags-tick o p
-effect-tags o (call.event lent code) e p l = tags-event (o .channel) (o .user) code
-effect-tags o (call.changeUser user) e p l = tags-user o user
-effect-tags o (call.writeMain lent offset value) e p l = refl
-effect-tags o (call.readMain offset) e p l =
-    plain (o .channel) (mainRead (o .channel) offset) (answer o (call.readMain offset)) leavesTags (main-plain (o .channel) offset .0) (same-main (o .channel) offset)
+effect-held : (o : OneChannel) (k : ChannelCall) (g : Tags) → ApartIn (o .channel) → Held (o .channel) g
+    → Held (effect o k .channel) (by (o .channel) (answer o k) (asks o k .tags) g)
+unfolding effect answer armedOf seq.armed disarmedOf seq.disarmed seq.idled
+effect-held o (call.writeRegister lent offset value) g p h = held-register (o .channel) offset value g h
+effect-held o (call.readRegister offset) g p h = same-held (o .channel) (readEffect (o .channel) offset) g (same-read (o .channel) offset) h
+effect-held o (call.writeSetpoint lent user buffer index word) g p h = h
+effect-held o call.arm g p h = record { armed = refl; events = h .events; tag = h .tag; tagged = h .tagged }
+effect-held o call.disarm g p h = record { armed = refl; events = h .events; tag = refl; tagged = λ e. clash e }
+effect-held o (call.reply lent f) g p h =
+    plain (o .channel) (replyOf (o .channel) (o .m) f) (answer o (call.reply lent f)) g (reply-plain (o .channel) (o .m) f)
+    (same-reply (o .channel) (o .m) f) h
+effect-held o (call.query which one two) g p h =
+    plain (o .channel) (o .channel) (answer o (call.query which one two)) g (query-plain o which .1) refl h
+effect-held o (call.tick lent) g p h = held-tick o g p h
+effect-held o (call.event lent code) g p h = held-event (o .channel) (o .user) code g h
+effect-held o (call.changeUser user) g p h = held-user o user g h
+effect-held o (call.writeMain lent offset value) g p h = h
+effect-held o (call.readMain offset) g p h =
+    plain (o .channel) (mainRead (o .channel) offset) (answer o (call.readMain offset)) g (main-plain (o .channel) offset .0)
+    (same-main (o .channel) offset) h
 
-pub tags-step : (o : OneChannel) (k : ChannelCall) → ApartIn (o .channel) → length (o .channel .registers .events) ≡ 7
-    → tagsOf (transition o k .channel) ≡ tagsAfter (tagsOf (o .channel)) (toldAt o k)
+pub held-step : (o : OneChannel) (k : ChannelCall) (g : Tags) → ApartIn (o .channel) → Held (o .channel) g
+    → Held (transition o k .channel) (tagsAfter g (toldAt o k))
 unfolding transition response
-tags-step o k p l = go (eqb (refusalOf o k) 0) refl
+held-step o k g p h = go (eqb (refusalOf o k) 0) refl
   where
     go : (b : Bool) → eqb (refusalOf o k) 0 ≡ b
         → let a = cond b (answer o k) (refused (refusalOf o k)) in
-        tagsOf (cond b (effect o k) o .channel) ≡ cond (isRefusal a) (tagsOf (o .channel)) (by (o .channel) a (asks o k .tags))
-    go true e = rw (accepted-answer o k e) (effect-tags o k (eqb-true (refusalOf o k) 0 e) p l)
-    go false e = refl
+        Held (cond b (effect o k) o .channel) (cond (isRefusal a) g (by (o .channel) a (asks o k .tags) g))
+    go true e = rw (accepted-answer o k e) (effect-held o k g p h)
+    go false e = h

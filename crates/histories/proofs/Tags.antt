@@ -1,73 +1,79 @@
 -- After any list of calls D25 is set exactly in the words of the replies kept for a send that used a tag. Assumes nothing.
-use Prim.Native.Nat.{ℕ, _%_, _<_}
-use mathlib.Core.Path.{_≡_, refl, sym, _∙_, ap}
+use Prim.Native.Nat.{ℕ, zero, suc, _+_, _*_, _<_}
+use mathlib.Core.Path.{_≡_, refl, sym, _∙_, ap, subst}
 use mathlib.Core.Bool.{Bool, true, false, cond, not, _&&_, _||_}
-use mathlib.Core.List.{List, [], _∷_, _++_, map}
+use mathlib.Core.List.{List, [], _∷_, map}
 use native.Mathlib.Omega.{arith}
-use lib.Dec.{eqb}
-use lib.ListN.{length, length-map}
+use lib.Dec.{eqb, leb, ltb}
+use lib.ListN.{length, getD, length-map}
 use borrow.Table.Elements.{map-app}
 use Rattle.frame.specs.Frames.{Reading, read, framed, idOf, dataOf, auxOf, crcIn, crcRight}
 use Rattle.frame.specs.Frames as frame
 use Rattle.status.specs.Bits.{bitAt}
 use Rattle.register_map.specs.AccessRule.{channelAccess}
-use Rattle.registers.specs.Map.{matches, triggersOf, groupEndEvent, loaded}
-use Rattle.readback.specs.Storing.{storedWord}
+use Rattle.registers.specs.Map.{matches, groupEndEvent, tagEvent, loaded}
+use Rattle.sequencer.specs.declared.LastSend.{LastSend}
+use Rattle.sequencer.specs.Playing.{isIdle}
+use Rattle.readback.specs.declared.Disposition.the-variants as disposition
+use Rattle.readback.specs.Storing.{isDue, dispositionOf, capacity}
 use Rattle.readback.proofs.Laws.{stored-tag}
 use Rattle.command_frames.specs.Commanding.{takes}
+use Rattle.channel_core.specs.declared.Channel.{Channel}
 use Rattle.channel_core.specs.State as state
 use Rattle.channel_core.specs.Answers as ans
+use Rattle.channel_replies.specs.Replying.{dispositionNow, receiptAnswer, replyAnswerAs, replyAnswer}
 use Rattle.channel_registers.specs.Calls.{readValue}
 use Rattle.channel.specs.OneChannel.{ChannelCall, OneChannel, oneChannel, refusalOf, answer, transition, response, transitions, readRegister}
 use Rattle.channel.specs.OneChannel as call
-use Rattle.channel.proofs.Cases.{clash, either}
-use Rattle.histories.specs.TagChanges.{Tags, noTags, droppedIf, taggedIf, writtenTags}
+use Rattle.channel.proofs.Cases.{clash, either, by-test}
+use Rattle.histories.specs.TagChanges.{Tags, openedTags, groupEndedIf, taggedIf, writtenTags}
 use Rattle.histories.specs.History.{isKept, Entry, Told, told, toldOf, replyWord, asks, isRefused, sendsSetpoint, resets, endsGroup}
 use Rattle.histories.specs.Keeping.{Groups, nothingKept, switched, keptWith, groupsAfter, storedBy, keptAfter, keptSince, keptOver}
-use Rattle.histories.specs.Ranges.{ChannelInRange}
-use Rattle.histories.specs.Tags.{tagsAfter, tagsSince, tagsOver, TagsTold, marksSince, marksOver, marksIn, MarksKept, MarksRetired}
+use Rattle.histories.specs.Tags.{tagsAfter, tagsSince, TagsTold, marksSince, marksOver, marksIn, MarksKept, MarksRetired}
 use Rattle.histories.proofs.Buffered.{toldAt}
 use Rattle.histories.proofs.Commands.{toldFrom, told-next}
 use Rattle.histories.proofs.Keeping.{retires-kept}
-use Rattle.histories.proofs.Parts.{opened-range}
-use Rattle.histories.proofs.Ranges.{channel-step, Ordered, ordered-opened, ordered-step}
-use Rattle.histories.proofs.Tagged.{tagsOf, tags-step}
+use Rattle.histories.proofs.Ranges.{Ordered, ordered-opened, ordered-step}
+use Rattle.histories.proofs.Tagged.{Held, held-step}
 
 -- ---- What is told
 
-tags-from : (o : OneChannel) (ks : List ChannelCall) → Ordered (o .channel) → ChannelInRange (o .m) (o .channel)
-    → tagsOf (transitions o ks .channel) ≡ tagsSince (tagsOf (o .channel)) (toldFrom o ks)
+held-from : (o : OneChannel) (ks : List ChannelCall) (g : Tags) → Ordered (o .channel) → Held (o .channel) g
+    → Held (transitions o ks .channel) (tagsSince g (toldFrom o ks))
 unfolding tagsSince told
-tags-from o [] g r = refl
-tags-from o (k ∷ ks) g r =
-    tags-from (transition o k) ks (ordered-step o k g) (channel-step o k r)
-    ∙ ap (λ (x : Tags). tagsSince x (toldFrom (transition o k) ks)) (tags-step o k (g .apart) (r .registers .events))
-    ∙ ap (tagsSince (tagsOf (o .channel))) (sym (told-next o k ks (g .apart)))
+held-from o [] g a h = h
+held-from o (k ∷ ks) g a h =
+    subst (λ (ts : List Told). Held (transitions (transition o k) ks .channel) (tagsSince g ts)) (sym (told-next o k ks (a .apart)))
+    (held-from (transition o k) ks (tagsAfter g (toldAt o k)) (ordered-step o k a) (held-step o k g (a .apart) h))
+
+held-opened : Held state.opened openedTags
+unfolding state.opened
+held-opened = record { armed = refl; events = refl; tag = refl; tagged = λ e. clash e }
 
 -- a tag waits on an armed channel only
 abbrev Only : Tags → Type 0
-Only g = g .pending ≡ true → g .armed ≡ true
+Only g = g .tag ≡ true → g .armed ≡ true
 
-only-none : Only noTags
-only-none e = clash e
+only-opened : Only openedTags
+only-opened e = clash e
 
-only-dropped : (on : Bool) (g : Tags) → Only g → Only (droppedIf on g)
-only-dropped true g h e = clash e
-only-dropped false g h e = h e
+only-ended : (on : Bool) (g : Tags) → Only g → Only (groupEndedIf on g)
+only-ended true g h e = clash e
+only-ended false g h e = h e
 
 only-tagged : (on : Bool) (g : Tags) → Only g → Only (taggedIf on g)
 only-tagged true g h = go (g .armed) refl
   where
-    go : (b : Bool) → g .armed ≡ b → (b || g .pending) ≡ true → g .armed ≡ true
+    go : (b : Bool) → g .armed ≡ b → (b || g .tag) ≡ true → g .armed ≡ true
     go true a e = a
     go false a e = h e
 only-tagged false g h = h
 
 only-written : (offset value : ℕ) (g : Tags) → Only g → Only (writtenTags offset value g)
 only-written offset value g h =
-    either Only (eqb offset 0x06 && bitAt value 0) only-none
-    (either Only (eqb offset 0x08) (only-tagged (bitAt value 3) (droppedIf (bitAt value 2) g) (only-dropped (bitAt value 2) g h))
-    (either Only (eqb offset 0x2c) h h))
+    either Only (eqb offset 0x06 && bitAt value 0) only-opened
+    (either Only (eqb offset 0x08) (only-tagged (bitAt value 3) (groupEndedIf (bitAt value 2) g) (only-ended (bitAt value 2) g h))
+    (either Only (leb 0x20 offset && ltb offset 0x2e) h h))
 
 only-asked : (o : OneChannel) (k : ChannelCall) (g : Tags) → Only g → Only (asks o k .tags g)
 only-asked o (call.writeRegister lent offset value) g h = only-written offset value g h
@@ -79,8 +85,8 @@ only-asked o (call.reply lent f) g h = h
 only-asked o (call.query which one two) g h = h
 only-asked o (call.tick lent) g h = h
 only-asked o (call.event lent code) g h =
-    let ends = triggersOf (o .channel .registers) groupEndEvent code in
-    only-tagged (matches (g .register) code) (droppedIf ends g) (only-dropped ends g h)
+    let ends = matches (getD (g .events) groupEndEvent 0) code in
+    only-tagged (matches (getD (g .events) tagEvent 0) code) (groupEndedIf ends g) (only-ended ends g h)
 only-asked o (call.changeUser user) g h = h
 only-asked o (call.writeMain lent offset value) g h = h
 only-asked o (call.readMain offset) g h = h
@@ -92,56 +98,110 @@ only-since g (t ∷ ts) h =
     only-since (tagsAfter g t) ts
     (either Only (isRefused (t .entry)) h (either Only (sendsSetpoint t) (λ e. clash e) (only-asked (t .entry .before) (t .entry .call) g h)))
 
-reads-register : (o : OneChannel) → response o (readRegister 0x2c) ≡ ans.value (tagsOf (o .channel) .register)
+reads-event : (o : OneChannel) (i : ℕ) → i < 7 → response o (readRegister (0x20 + i * 2)) ≡ ans.value (getD (o .channel .registers .events) i 0)
 unfolding channelAccess response refusalOf answer readValue loaded
-reads-register o = refl
+reads-event o zero h = refl
+reads-event o (suc zero) h = refl
+reads-event o (suc (suc zero)) h = refl
+reads-event o (suc (suc (suc zero))) h = refl
+reads-event o (suc (suc (suc (suc zero)))) h = refl
+reads-event o (suc (suc (suc (suc (suc zero))))) h = refl
+reads-event o (suc (suc (suc (suc (suc (suc zero)))))) h = refl
+reads-event o (suc (suc (suc (suc (suc (suc (suc i))))))) h = absurd (omega arith)
 
 pub tags-told : TagsTold
 unfolding state.opened
 tags-told n m setpoints readbacks ks =
     let o = oneChannel n m setpoints readbacks in
-    let e = tags-from o ks ordered-opened (opened-range m) in
+    let h = held-from o ks openedTags ordered-opened held-opened in
     record {
-      armed = ap (λ (g : Tags). g .armed) e;
-      register = reads-register (transitions o ks) ∙ ap (λ (g : Tags). ans.value (g .register)) e;
-      pending = ap (λ (g : Tags). g .pending) e;
-      used = ap (λ (g : Tags). g .used) e;
-      only-armed = only-since noTags (toldOf o ks) only-none;
+      armed = h .armed;
+      registers = λ i few. reads-event (transitions o ks) i few ∙ ap (λ (l : List ℕ). ans.value (getD l i 0)) (h .events);
+      tag = h .tag;
+      tagged = h .tagged;
+      only-armed = only-since openedTags (toldOf o ks) only-opened;
     }
 
 -- ---- The words
 
--- D25 of these words is the mark of the last send
-abbrev Marked : OneChannel → List ℕ → Type 0
-Marked o words = marksIn words ≡ map (λ (word : ℕ). o .channel .sequencer .last .tagged) words
+-- D25 of these words is the mark
+abbrev Marked : Bool → List ℕ → Type 0
+Marked mark words = marksIn words ≡ map (λ (word : ℕ). mark) words
 
-marked-reply : (o : OneChannel) (f : ℕ) → Marked o (replyWord o (read f))
+marked-reply : (o : OneChannel) (f : ℕ) → Marked (o .channel .sequencer .last .tagged) (replyWord o (read f))
 unfolding read
 marked-reply o f = go (framed f)
   where
-    go : (b : Bool) → Marked o (replyWord o (cond b (frame.fields (idOf f) (dataOf f) (auxOf f) (crcIn f)) (frame.refused 7)))
+    go : (b : Bool)
+        → Marked (o .channel .sequencer .last .tagged) (replyWord o (cond b (frame.fields (idOf f) (dataOf f) (auxOf f) (crcIn f)) (frame.refused 7)))
     go true =
         ap (λ (x : Bool). x ∷ [])
         (stored-tag (o .channel .sequencer .last) (o .user) (not (crcRight (idOf f) (dataOf f) (auxOf f) (crcIn f))) (idOf f) (dataOf f)
         (omega arith) (omega arith))
     go false = refl
 
-marked-asked : (o : OneChannel) (k : ChannelCall) → Marked o (asks o k .word)
-marked-asked o (call.writeRegister lent offset value) = refl
-marked-asked o (call.readRegister offset) = refl
-marked-asked o (call.writeSetpoint lent user buffer index word) = refl
-marked-asked o call.arm = refl
-marked-asked o call.disarm = refl
-marked-asked o (call.reply lent f) = marked-reply o f
-marked-asked o (call.query which one two) = refl
-marked-asked o (call.tick lent) = refl
-marked-asked o (call.event lent code) = refl
-marked-asked o (call.changeUser user) = refl
-marked-asked o (call.writeMain lent offset value) = refl
-marked-asked o (call.readMain offset) = refl
+-- a reply that is kept, and not for a command frame, finds a send since idle
+due-sent : (idle : Bool) (l : LastSend) → isDue idle l ≡ true → l .sent ≡ true
+due-sent true l e = clash e
+due-sent false l e = go (l .sent) e
+  where
+    go : (b : Bool) → (b && ltb (l .replies) 6) ≡ true → b ≡ true
+    go true e = refl
+    go false e = clash e
 
-marked-stored : (o : OneChannel) (k : ChannelCall) → Marked o (storedBy (toldAt o k))
-marked-stored o k = either (Marked o) (isKept (response o k) && not (takes (o .channel .commands))) (marked-asked o k) refl
+disposed-sent : (c : Channel) (m : ℕ) → isKept (receiptAnswer (dispositionNow c m)) ≡ true → c .sequencer .last .sent ≡ true
+unfolding dispositionNow dispositionOf
+disposed-sent c m = go (isDue (isIdle (c .sequencer .stage)) (c .sequencer .last)) (ltb (c .readbacks .stored) (capacity m)) refl
+  where
+    go : (due space : Bool) → isDue (isIdle (c .sequencer .stage)) (c .sequencer .last) ≡ due
+        → isKept (receiptAnswer (cond due (cond space disposition.Kept disposition.Lost) disposition.Unsolicited)) ≡ true
+        → c .sequencer .last .sent ≡ true
+    go true space e k = due-sent (isIdle (c .sequencer .stage)) (c .sequencer .last) e
+    go false space e k = clash k
+
+reply-sent : (o : OneChannel) (lent f : ℕ) → (isKept (response o (call.reply lent f)) && not (takes (o .channel .commands))) ≡ true
+    → o .channel .sequencer .last .sent ≡ true
+unfolding response answer replyAnswer
+reply-sent o lent f = go (eqb (refusalOf o (call.reply lent f)) 0) (read f)
+  where
+    c : Channel
+    c = o .channel
+
+    kept : (b : Bool) → (b && true) ≡ true → b ≡ true
+    kept true e = refl
+    kept false e = clash e
+
+    fields : (taken : Bool) → (isKept (cond taken ans.kept (receiptAnswer (dispositionNow c (o .m)))) && not taken) ≡ true → c .sequencer .last .sent ≡ true
+    fields true e = clash e
+    fields false e = disposed-sent c (o .m) (kept (isKept (receiptAnswer (dispositionNow c (o .m)))) e)
+
+    go : (passed : Bool) (r : Reading)
+        → (isKept (cond passed (replyAnswerAs r c (o .m)) (ans.refused (refusalOf o (call.reply lent f)))) && not (takes (c .commands))) ≡ true
+        → c .sequencer .last .sent ≡ true
+    go false r e = clash e
+    go true (frame.refused k) e = clash e
+    go true (frame.fields id word aux crc) e = fields (takes (c .commands)) e
+
+-- what a call stores has the mark that is told
+marked-asked : (o : OneChannel) (k : ChannelCall) (g : Tags) → Held (o .channel) g
+    → (isKept (response o k) && not (takes (o .channel .commands))) ≡ true → Marked (g .tagged) (asks o k .word)
+marked-asked o (call.writeRegister lent offset value) g h e = refl
+marked-asked o (call.readRegister offset) g h e = refl
+marked-asked o (call.writeSetpoint lent user buffer index word) g h e = refl
+marked-asked o call.arm g h e = refl
+marked-asked o call.disarm g h e = refl
+marked-asked o (call.reply lent f) g h e =
+    subst (λ (mark : Bool). Marked mark (replyWord o (read f))) (h .tagged (reply-sent o lent f e)) (marked-reply o f)
+marked-asked o (call.query which one two) g h e = refl
+marked-asked o (call.tick lent) g h e = refl
+marked-asked o (call.event lent code) g h e = refl
+marked-asked o (call.changeUser user) g h e = refl
+marked-asked o (call.writeMain lent offset value) g h e = refl
+marked-asked o (call.readMain offset) g h e = refl
+
+marked-stored : (o : OneChannel) (k : ChannelCall) (g : Tags) → Held (o .channel) g → Marked (g .tagged) (storedBy (toldAt o k))
+marked-stored o k g h =
+    by-test (Marked (g .tagged)) (isKept (response o k) && not (takes (o .channel .commands))) (λ e. marked-asked o k g h e) (λ e. refl)
 
 abbrev marksOf : Groups ℕ → Groups Bool
 marksOf g = record { current = marksIn (g .current); retired = marksIn (g .retired) }
@@ -157,25 +217,24 @@ marks-after g more e = go (resets e) (endsGroup e)
     go false false =
         ap (λ (l : List Bool). record { current = l; retired = marksIn (g .retired) }) (map-app (λ (word : ℕ). bitAt word 25) (g .current) more)
 
-marks-from : (o : OneChannel) (ks : List ChannelCall) (g : Groups ℕ) → Ordered (o .channel) → ChannelInRange (o .m) (o .channel)
-    → marksOf (keptSince g (toldFrom o ks)) ≡ marksSince (tagsOf (o .channel)) (marksOf g) (toldFrom o ks)
+marks-from : (o : OneChannel) (ks : List ChannelCall) (g : Tags) (kept : Groups ℕ) → Ordered (o .channel) → Held (o .channel) g
+    → marksOf (keptSince kept (toldFrom o ks)) ≡ marksSince g (marksOf kept) (toldFrom o ks)
 unfolding keptSince marksSince told
-marks-from o [] g a r = refl
-marks-from o (k ∷ ks) g a r =
+marks-from o [] g kept a h = refl
+marks-from o (k ∷ ks) g kept a h =
     let x = transition o k in
     let t = toldAt o k in
-    let next = sym (told-next o k ks (a .apart)) in
-    ap (λ (ts : List Told). marksOf (keptSince g ts)) (sym next)
-    ∙ marks-from x ks (keptAfter g t) (ordered-step o k a) (channel-step o k r)
-    ∙ ap (λ (h : Tags). marksSince h (marksOf (keptAfter g t)) (toldFrom x ks)) (tags-step o k (a .apart) (r .registers .events))
-    ∙ ap (λ (h : Groups Bool). marksSince (tagsAfter (tagsOf (o .channel)) t) h (toldFrom x ks))
-    (marks-after g (storedBy t) (t .entry) ∙ ap (λ (l : List Bool). groupsAfter (marksOf g) l (t .entry)) (marked-stored o k))
-    ∙ ap (marksSince (tagsOf (o .channel)) (marksOf g)) next
+    let next = told-next o k ks (a .apart) in
+    ap (λ (ts : List Told). marksOf (keptSince kept ts)) next
+    ∙ marks-from x ks (tagsAfter g t) (keptAfter kept t) (ordered-step o k a) (held-step o k g (a .apart) h)
+    ∙ ap (λ (marks : Groups Bool). marksSince (tagsAfter g t) marks (toldFrom x ks))
+    (marks-after kept (storedBy t) (t .entry) ∙ ap (λ (l : List Bool). groupsAfter (marksOf kept) l (t .entry)) (marked-stored o k g h))
+    ∙ ap (marksSince g (marksOf kept)) (sym next)
 
 marks-are : (n m : ℕ) (setpoints readbacks : List ℕ) (ks : List ChannelCall)
     → marksOf (keptOver n m setpoints readbacks ks) ≡ marksOver n m setpoints readbacks ks
 unfolding state.opened
-marks-are n m setpoints readbacks ks = marks-from (oneChannel n m setpoints readbacks) ks nothingKept ordered-opened (opened-range m)
+marks-are n m setpoints readbacks ks = marks-from (oneChannel n m setpoints readbacks) ks openedTags nothingKept ordered-opened held-opened
 
 pub marks-kept : MarksKept
 marks-kept n m setpoints readbacks ks =

@@ -19,7 +19,7 @@ use Rattle.channel_core.specs.Answers.{Answer, isRefusal, isFrame, isReceived}
 use Rattle.channel_core.specs.Answers as ans
 use Rattle.channel.specs.OneChannel.{ChannelCall, OneChannel, transition, response}
 use Rattle.channel.specs.OneChannel as call
-use Rattle.histories.specs.TagChanges.{TagChange, leavesTags, armedBy, disarmedBy, idledIf, eventTags, writtenTags}
+use Rattle.histories.specs.TagChanges.{TagChange, leavesTags, armedTags, disarmedTags, eventTags, writtenTags}
 
 -- one call: the state before it, the call, and what it answered
 pub record Entry : Type 0 where
@@ -36,7 +36,7 @@ history o (k ∷ ks) = entry o k ∷ history (transition o k) ks
 
 -- ---- What a call asks for
 
--- "Kept word: .. D31–D26 describe the last send": the word of a reply that comes at this state; there is none where it is refused 7
+-- "Kept word: .. D31–D26 describe the last send", and D25 (card 6): the word of a reply that comes at this state; there is none where it is refused 7
 abbrev pub replyWord : OneChannel → Reading → List ℕ
 replyWord o (frame.refused k) = []
 replyWord o (frame.fields id word aux crc) = storedWord (o .channel .sequencer .last) (o .user) (not (crcRight id word aux crc)) id word ∷ []
@@ -129,15 +129,14 @@ asks o (call.writeRegister lent offset value) =
     }
 asks o (call.readRegister offset) = reading offset
 asks o (call.writeSetpoint lent user buffer index word) = asksNothing
-asks o call.arm = changing leavesCommands armedBy
-asks o call.disarm = idleIf true (λ a f. cmd.dropped f) disarmedBy
+asks o call.arm = changing leavesCommands armedTags
+asks o call.disarm = idleIf true (λ a f. cmd.dropped f) disarmedTags
 asks o (call.reply lent f) = bringing (replyWord o (read f)) (repliedTo (read f))
 asks o (call.query which one two) = asksNothing
 asks o (call.tick lent) = changing tickedBy leavesTags
 asks o (call.event lent code) =
-    let ends = triggersOf (o .channel .registers) groupEndEvent code in
-    groupEndIf ends (eventTags ends code)
-asks o (call.changeUser user) = idleIf (not (eqb user (o .user))) leavesCommands (idledIf (not (eqb user (o .user))))
+    groupEndIf (triggersOf (o .channel .registers) groupEndEvent code) (eventTags code)
+asks o (call.changeUser user) = idleIf (not (eqb user (o .user))) leavesCommands leavesTags
 asks o (call.writeMain lent offset value) = asksNothing
 asks o (call.readMain offset) = asksNothing
 

@@ -21,7 +21,7 @@ pub record Groups (A : Type 0) : Type 0 where
   pub current : List A
   pub retired : List A
 
--- its word
+-- of each such reply, its word
 abbrev pub Kept : Type 0
 Kept = Groups ℕ
 

@@ -1,14 +1,14 @@
--- Document 02, card 6: which stored words have D25 set, over any history. What is told of tags goes by calls and what they answered (specs/TagChanges): a
--- setpoint send is a tick that answered a frame, and not a command frame, so that a command frame neither uses nor ends a tag.
-use Prim.Native.Nat.{ℕ, _*_}
+-- Document 02, card 6: which stored words have D25 set, over any history. What is told of tags goes by calls and what they answered alone (specs/TagChanges):
+-- a setpoint send is a tick that answered a frame, and not a command frame, so that a command frame neither uses nor ends a tag.
+use Prim.Native.Nat.{ℕ, _+_, _*_, _<_}
 use mathlib.Core.Path.{_≡_}
 use mathlib.Core.Bool.{Bool, true, cond}
 use mathlib.Core.List.{List, [], _∷_, map}
-use lib.ListN.{length}
+use lib.ListN.{length, getD}
 use Rattle.status.specs.Bits.{bitAt}
 use Rattle.channel_core.specs.Answers.{value, part, partLength}
 use Rattle.channel.specs.OneChannel.{ChannelCall, OneChannel, oneChannel, response, transitions, readRegister, query, retired, retiredLength}
-use Rattle.histories.specs.TagChanges.{Tags, noTags, sentTags}
+use Rattle.histories.specs.TagChanges.{Tags, openedTags, sentTags}
 use Rattle.histories.specs.History.{Told, toldOf, asks, isRefused, sendsSetpoint}
 use Rattle.histories.specs.Keeping.{Groups, nothingKept, groupsAfter, storedBy, keptOver}
 
@@ -25,15 +25,15 @@ tagsSince g (t ∷ ts) = tagsSince (tagsAfter g t) ts
 
 -- of an opening and a list of calls
 abbrev pub tagsOver : ℕ → ℕ → List ℕ → List ℕ → List ChannelCall → Tags
-tagsOver n m setpoints readbacks ks = tagsSince noTags (toldOf (oneChannel n m setpoints readbacks) ks)
+tagsOver n m setpoints readbacks ks = tagsSince openedTags (toldOf (oneChannel n m setpoints readbacks) ks)
 
--- a channel holds what is told, and 2C reads so; there is no tag on a disarmed channel
+-- a channel holds what is told, of its last send where there is one since idle; 20–2C read so; and there is no tag on a disarmed channel
 pub record HoldsTags (o : OneChannel) (g : Tags) : Type 0 where
   pub armed : o .channel .sequencer .armed ≡ g .armed
-  pub register : response o (readRegister 0x2c) ≡ value (g .register)
-  pub pending : o .channel .sequencer .tag ≡ g .pending
-  pub used : o .channel .sequencer .last .tagged ≡ g .used
-  pub only-armed : g .pending ≡ true → g .armed ≡ true
+  pub registers : (i : ℕ) → i < 7 → response o (readRegister (0x20 + i * 2)) ≡ value (getD (g .events) i 0)
+  pub tag : o .channel .sequencer .tag ≡ g .tag
+  pub tagged : o .channel .sequencer .last .sent ≡ true → o .channel .sequencer .last .tagged ≡ g .tagged
+  pub only-armed : g .tag ≡ true → g .armed ≡ true
 
 -- from an opening, after any list of calls
 abbrev pub TagsTold : Type 0
@@ -47,10 +47,10 @@ TagsTold =
 unfoldable pub marksSince : Tags → Groups Bool → List Told → Groups Bool
 marksSince g marks [] = marks
 marksSince g marks (t ∷ ts) =
-    marksSince (tagsAfter g t) (groupsAfter marks (map (λ (word : ℕ). g .used) (storedBy t)) (t .entry)) ts
+    marksSince (tagsAfter g t) (groupsAfter marks (map (λ (word : ℕ). g .tagged) (storedBy t)) (t .entry)) ts
 
 abbrev pub marksOver : ℕ → ℕ → List ℕ → List ℕ → List ChannelCall → Groups Bool
-marksOver n m setpoints readbacks ks = marksSince noTags nothingKept (toldOf (oneChannel n m setpoints readbacks) ks)
+marksOver n m setpoints readbacks ks = marksSince openedTags nothingKept (toldOf (oneChannel n m setpoints readbacks) ks)
 
 -- D25 of each word
 abbrev pub marksIn : List ℕ → List Bool

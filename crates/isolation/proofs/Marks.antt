@@ -1,5 +1,5 @@
 -- D25 in the words that retired readbacks answers on the board: each channel is as it would be alone. Assumes nothing.
-use Prim.Native.Nat.{ℕ, _*_}
+use Prim.Native.Nat.{_*_}
 use mathlib.Core.Path.{_≡_, refl, ap, _∙_}
 use Rattle.channel.specs.OneChannel.{OneChannel, response, transitions}
 use Rattle.channel.specs.OneChannel as to

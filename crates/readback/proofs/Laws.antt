@@ -1,5 +1,5 @@
 -- A full buffer takes no readback, and leaves the place for its end word; D25 of a stored word, and which one is an end word. Assumes nothing.
-use Prim.Native.Nat.{ℕ, _*_, _/_, _%_, _^_, _<_, _≤_}
+use Prim.Native.Nat.{ℕ, _+_, _*_, _/_, _%_, _^_, _<_, _≤_}
 use mathlib.Core.Path.{_≡_, refl, sym, ap, _∙_}
 use mathlib.Core.Bool.{Bool, true, false}
 use mathlib.Core.List.{List}
@@ -20,6 +20,10 @@ pub end-after-stored : (r : Readbacks) (s : List ℕ) (second : Bool) (m : ℕ) 
     → getD (endWords r s second m) (placeOf second m (r .stored)) 0 ≡ endWord
 end-after-stored r s true m h l k = getD-set-same s _ endWord 0 (omega arith)
 end-after-stored r s false m h l k = getD-set-same s _ endWord 0 (omega arith)
+
+-- the same send with no tag used
+abbrev pub untagged : LastSend → LastSend
+untagged l = record { sent = l .sent; first = l .first; paused = l .paused; last = l .last; id = l .id; tagged = false; replies = l .replies }
 
 bit-at-most : (b : Bool) → bitOf b ≤ 1
 bit-at-most true = omega arith
@@ -42,6 +46,11 @@ module _ (l : LastSend) (user : ℕ) (wrong : Bool) (id word : ℕ) (short : id 
   pub stored-tag : bitAt (storedWord l user wrong id word) 25 ≡ l .tagged
   unfolding storedWord
   stored-tag = bit-back (l .tagged) (storedWord l user wrong id word) 25 (omega (arith, bit-at-most (l .tagged), bit-at-most wrong))
+
+  -- its other bits are as they would be without
+  pub tag-adds : l .tagged ≡ true → storedWord l user wrong id word ≡ storedWord (untagged l) user wrong id word + 0x2000000
+  unfolding storedWord
+  tag-adds e = rw e (omega arith)
 
   -- a stored word is the end word exactly where it is tagged and all else in it is 0
   pub stored-end : (storedWord l user wrong id word ≡ endWord → LikeEnd l user wrong id word)

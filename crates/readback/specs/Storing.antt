@@ -55,7 +55,7 @@ abbrev pub endWord : ℕ
 endWord = 0x2000000
 
 -- when a stored word is the end word. Card 6: "User 1, ID 0, data 0, tagged, may equal the end word", where the send was none of first, paused and last
--- and the CRC is right
+-- and the CRC is right. Of users 1 to 8, `first-user` is user 1.
 pub record LikeEnd (l : LastSend) (user : ℕ) (wrong : Bool) (id word : ℕ) : Type 0 where
   pub tagged : l .tagged ≡ true
   pub not-first : l .first ≡ false

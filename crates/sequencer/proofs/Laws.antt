@@ -13,8 +13,7 @@ use Rattle.sequencer.specs.declared.Stage.the-variants as stage
 use Rattle.sequencer.specs.declared.Sequencer.{Sequencer}
 use Rattle.sequencer.specs.declared.Transmission.the-variants as transmission
 use Rattle.sequencer.proofs.Steps as steps
-use Rattle.sequencer.proofs.Moves.{resume-taken, counted-with}
-use Rattle.sequencer.proofs.Moves as moves
+use Rattle.sequencer.proofs.Moves.{resume-taken, moved, counted-with}
 
 holds-after : (k : Kind) → (k ≡ kind.Plain → ⊥) → holds (stageAfter k) ≡ true
 holds-after kind.Plain h = absurd (h refl)
@@ -132,5 +131,5 @@ module _ (words : ℕ → ℕ) (n p id : ℕ) where
   counts-all s h zero = omega arith
   counts-all s h (suc k) =
       let t = ticks words n p id s k in
-      moves.sends t (words (t .index)) n p id .count
+      moved t (words (t .index)) n p id .count
       ∙ counted-with (next words n p id t .transmission) (s .count) (sentBy words n p id s k) (t .count) (counts-all s h k)

@@ -53,59 +53,59 @@ pub last-place : (w : ℕ) → kindOf w true ≡ kind.Last
 last-place w = refl
 
 -- this tick, from s: both counts, the tag not yet used, whether the last send used one, and that the channel stays armed or not
-pub record Sends (s : Sequencer) (t : Ticked) : Type 0 where
+pub record Moved (s : Sequencer) (t : Ticked) : Type 0 where
   pub count : t .sequencer .count ≡ countAfter (t .transmission) (s .count)
   pub missing : t .sequencer .missing ≡ missingAfter (t .transmission) (s .last) (s .missing)
   pub tag : t .sequencer .tag ≡ tagAfter (t .transmission) (s .tag)
   pub used : t .sequencer .last .tagged ≡ usedAfter (t .transmission) (s .tag) (s .last .tagged)
   pub armed : t .sequencer .armed ≡ s .armed
 
-sends-if : (s : Sequencer) (e : Bool) (a b : Ticked) → Sends s a → Sends s b → Sends s (cond e a b)
-sends-if s true a b h k = h
-sends-if s false a b h k = k
+moved-if : (s : Sequencer) (e : Bool) (a b : Ticked) → Moved s a → Moved s b → Moved s (cond e a b)
+moved-if s true a b h k = h
+moved-if s false a b h k = k
 
 -- nothing is transmitted, and only a countdown moves
-sends-left : (s : Sequencer) (left : ℕ) → Sends s (quiet (withLeft s left))
-sends-left s left = record { count = refl; missing = refl; tag = refl; used = refl; armed = refl }
+moved-left : (s : Sequencer) (left : ℕ) → Moved s (quiet (withLeft s left))
+moved-left s left = record { count = refl; missing = refl; tag = refl; used = refl; armed = refl }
 
-sends-next : (s : Sequencer) (due n p id : ℕ) → Sends s (sentNext s due n p id)
+moved-next : (s : Sequencer) (due n p id : ℕ) → Moved s (sentNext s due n p id)
 unfolding sentNext sentAs
-sends-next s due n p id = record { count = refl; missing = refl; tag = refl; used = refl; armed = refl }
+moved-next s due n p id = record { count = refl; missing = refl; tag = refl; used = refl; armed = refl }
 
-sends-advancing : (s : Sequencer) (due n p id : ℕ) → Sends s (advancing s due n p id)
+moved-advancing : (s : Sequencer) (due n p id : ℕ) → Moved s (advancing s due n p id)
 unfolding advancing
-sends-advancing s due n p id = sends-if s (leb (s .left) 1) (sentNext s due n p id) _ (sends-next s due n p id) (sends-left s (s .left - 1))
+moved-advancing s due n p id = moved-if s (leb (s .left) 1) (sentNext s due n p id) _ (moved-next s due n p id) (moved-left s (s .left - 1))
 
-sends-repeating : (s : Sequencer) (p id : ℕ) → Sends s (repeating s p id)
+moved-repeating : (s : Sequencer) (p id : ℕ) → Moved s (repeating s p id)
 unfolding repeating repeated
-sends-repeating s p id =
-    sends-if s (leb (s .left) 1) (repeated s p id) _ (record { count = refl; missing = refl; tag = refl; used = refl; armed = refl })
-    (sends-left s (s .left - 1))
+moved-repeating s p id =
+    moved-if s (leb (s .left) 1) (repeated s p id) _ (record { count = refl; missing = refl; tag = refl; used = refl; armed = refl })
+    (moved-left s (s .left - 1))
 
-sends-resuming : (s : Sequencer) (due n p id : ℕ) → Sends s (resuming s due n p id)
+moved-resuming : (s : Sequencer) (due n p id : ℕ) → Moved s (resuming s due n p id)
 unfolding resuming
-sends-resuming s due n p id =
+moved-resuming s due n p id =
     let t = withResume s (s .resume - 1) in
-    let r = sends-repeating t p id in
-    sends-if s (leb (s .resume) 1) (sentNext s due n p id) (cond (leb (s .resume) 10) (quiet t) (repeating t p id))
-    (sends-next s due n p id)
-    (sends-if s (leb (s .resume) 10) (quiet t) (repeating t p id)
+    let r = moved-repeating t p id in
+    moved-if s (leb (s .resume) 1) (sentNext s due n p id) (cond (leb (s .resume) 10) (quiet t) (repeating t p id))
+    (moved-next s due n p id)
+    (moved-if s (leb (s .resume) 10) (quiet t) (repeating t p id)
     (record { count = refl; missing = refl; tag = refl; used = refl; armed = refl })
     (record { count = r .count; missing = r .missing; tag = r .tag; used = r .used; armed = r .armed }))
 
-sends-at : (g : Stage) (s : Sequencer) (due n p id : ℕ) → Sends s (tickedAt g s due n p id)
-sends-at stage.Idle s due n p id = record { count = refl; missing = refl; tag = refl; used = refl; armed = refl }
-sends-at stage.Starting s due n p id = sends-advancing s due n p id
-sends-at stage.Running s due n p id = sends-advancing s due n p id
-sends-at (stage.Paused k) s due n p id = sends-repeating s p id
-sends-at stage.Resuming s due n p id = sends-resuming s due n p id
-sends-at stage.Ended s due n p id = sends-repeating s p id
+moved-at : (g : Stage) (s : Sequencer) (due n p id : ℕ) → Moved s (tickedAt g s due n p id)
+moved-at stage.Idle s due n p id = record { count = refl; missing = refl; tag = refl; used = refl; armed = refl }
+moved-at stage.Starting s due n p id = moved-advancing s due n p id
+moved-at stage.Running s due n p id = moved-advancing s due n p id
+moved-at (stage.Paused k) s due n p id = moved-repeating s p id
+moved-at stage.Resuming s due n p id = moved-resuming s due n p id
+moved-at stage.Ended s due n p id = moved-repeating s p id
 
 -- 7. A tick that transmits a word counts it, and the readbacks missing after the send before, and uses the tag, if there is one; one that transmits
 -- nothing leaves both counts, the tag, and the mark of the last send.
-pub sends : (s : Sequencer) (due n p id : ℕ) → Sends s (ticked s due n p id)
+pub moved : (s : Sequencer) (due n p id : ℕ) → Moved s (ticked s due n p id)
 unfolding ticked
-sends s due n p id = sends-at (s .stage) s due n p id
+moved s due n p id = moved-at (s .stage) s due n p id
 
 -- a resume is loaded, or changes nothing
 pub resumed-either : (P : Sequencer → Type 0) (s : Sequencer) (k delay : ℕ) → P (loadedResume s delay) → P s → P (resumed s k delay)
@@ -151,28 +151,6 @@ pub group-end-counts : (s : Sequencer) → (groupEnded s .count ≡ 0) × (group
 unfolding groupEnded idled
 group-end-counts s = (refl, refl)
 
--- 9. Card 6: an armed channel takes a tag, idle or not, and a second adds nothing; a disarmed one takes none.
-pub tag-taken : (s : Sequencer) → s .armed ≡ true → (tagged s ≡ withTag s true) × (tagged (tagged s) ≡ tagged s)
-unfolding tagged
-tag-taken s e = (rw e, rw e)
-
-pub tag-ignored : (s : Sequencer) → s .armed ≡ false → tagged s ≡ s
-unfolding tagged
-tag-ignored s e = rw e
-
--- "Group End, disarm and reset drop a tag not yet used.": Start and Resume, idling as at a user change, and a reply leave it
-pub tag-stays : (s : Sequencer)
-    → (idled s .tag ≡ s .tag)
-    × (answered s .tag ≡ s .tag)
-    × ((delay : ℕ) → started s delay .tag ≡ s .tag)
-    × ((k delay : ℕ) → resumed s k delay .tag ≡ s .tag)
-unfolding idled answered started
-tag-stays s = (refl, refl, λ delay. refl, λ k delay. resumed-either (λ (t : Sequencer). t .tag ≡ s .tag) s k delay refl refl)
-
-pub tag-dropped : (s : Sequencer) → (groupEnded s .tag ≡ false) × (disarmed s .tag ≡ false) × (opened .tag ≡ false)
-unfolding groupEnded disarmed
-tag-dropped s = (refl, refl, refl)
-
 counted-by : (c : ℕ) (e : Bool) → ltb c 0xffffff ≡ e → c ≤ 0xffffff → cond e (c + 1) c ≡ min (c + 1) 0xffffff
 counted-by c true e h = omega (arith, ltb-true c 0xffffff e)
 counted-by c false e h = omega (arith, ltb-false c 0xffffff e)
@@ -199,3 +177,25 @@ other-id l differs = rw (ne-eqb (l .id) 0x15 differs) (go (l .sent))
 pub none-before : (l : LastSend) → l .sent ≡ false → shortfall l ≡ 0
 unfolding shortfall
 none-before l none = rw none
+
+-- 9. Card 6: an armed channel takes a tag, idle or not, and a second adds nothing; a disarmed one takes none.
+pub tag-taken : (s : Sequencer) → s .armed ≡ true → (tagged s ≡ withTag s true) × (tagged (tagged s) ≡ tagged s)
+unfolding tagged
+tag-taken s e = (rw e, rw e)
+
+pub tag-ignored : (s : Sequencer) → s .armed ≡ false → tagged s ≡ s
+unfolding tagged
+tag-ignored s e = rw e
+
+-- "Group End, disarm and reset drop a tag not yet used.": Start and Resume, idling as at a user change, and a reply leave it
+pub tag-stays : (s : Sequencer)
+    → (idled s .tag ≡ s .tag)
+    × (answered s .tag ≡ s .tag)
+    × ((delay : ℕ) → started s delay .tag ≡ s .tag)
+    × ((k delay : ℕ) → resumed s k delay .tag ≡ s .tag)
+unfolding idled answered started
+tag-stays s = (refl, refl, λ delay. refl, λ k delay. resumed-either (λ (t : Sequencer). t .tag ≡ s .tag) s k delay refl refl)
+
+pub tag-dropped : (s : Sequencer) → (groupEnded s .tag ≡ false) × (disarmed s .tag ≡ false) × (opened .tag ≡ false)
+unfolding groupEnded disarmed
+tag-dropped s = (refl, refl, refl)

@@ -41,7 +41,6 @@ pub struct LastSend {
     pub paused: bool,
     pub last: bool,
     pub id: u8,
-    // It used a tag.
     pub tagged: bool,
     pub replies: u8,
 }

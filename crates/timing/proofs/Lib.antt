@@ -3,6 +3,7 @@ pub mod Calls
 pub mod Starts
 pub mod Series
 pub mod Resuming
+pub mod Tags
 pub mod Loaded
 pub mod Timing
 pub mod Commands

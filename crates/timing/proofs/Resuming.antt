@@ -22,7 +22,7 @@ use Rattle.channel_core.specs.State.{withSequencer}
 use Rattle.channel_core.specs.Behaviour.{endedIf, endedWords, startedIf, resumedIf, taggedIf, resumedOn, eventOf, eventWords, commanded, commandWords}
 use Rattle.channel.specs.OneChannel.{OneChannel, transition, withChannel}
 use Rattle.timing.specs.Ticking.{wordAt, period, answerOn, Resumes}
-use Rattle.timing.specs.Timing.{command, eventCall, triggeredBy, delay, OnlyResumes, OnlyD1}
+use Rattle.timing.specs.Timing.{command, eventCall, triggeredBy, delay, NeitherEndsNorStarts, NeitherD2NorD0}
 use Rattle.timing.specs.Timing as the
 use Rattle.timing.proofs.Bridge.{after-with, on-tick, sent-after, repeat}
 use Rattle.timing.proofs.Calls.{command-transition, event-transition, resume-nothing, resumes-nothing}
@@ -30,13 +30,13 @@ use Rattle.timing.proofs.Series.{period-some}
 
 -- ---- An event or command that resumes alone
 
-event-resumes : (o : OneChannel) (code : ℕ) → OnlyResumes o code
+event-resumes : (o : OneChannel) (code : ℕ) → NeitherEndsNorStarts o code
     → transition o (eventCall o code)
     ≡ withChannel o (taggedIf (triggeredBy o tagEvent code) (resumedOn (o .channel .registers) (o .channel) (o .user) code))
 unfolding eventOf eventWords endedIf endedWords startedIf
 event-resumes o code only = event-transition o code ∙ rw (only .0) (rw (only .1))
 
-command-resumes : (o : OneChannel) (value : ℕ) → OnlyD1 value
+command-resumes : (o : OneChannel) (value : ℕ) → NeitherD2NorD0 value
     → transition o (command o value) ≡ withChannel o (taggedIf (bitAt value 3) (resumedIf (bitAt value 1) (o .channel) 0 0))
 unfolding commanded commandWords endedIf endedWords startedIf
 command-resumes o value only = command-transition o value ∙ rw (only .0) (rw (only .1))
@@ -50,33 +50,30 @@ apart j k a b differ = absurd (differ (cc))
 not-resuming : {A : Type 0} {g : Stage} (k : ℕ) → g ≡ stage.Resuming → g ≡ stage.Paused k → A
 not-resuming k a b = absurd (let z : _≡_ {A = ℕ} 0 1 = cc in omega arith)
 
-ignored : (o : OneChannel) (code : ℕ) → OnlyResumes o code
-    → ((k : ℕ) → o .channel .sequencer .stage ≡ stage.Paused k → triggeredBy o k code ≡ false)
-    → transition o (eventCall o code) ≡ the.taggedIf (triggeredBy o tagEvent code) o
-ignored o code only h =
+pub event-ignored : the.EventIgnored
+event-ignored o code only h =
     event-resumes o code only
     ∙ ap (λ (c : Channel). withChannel o (taggedIf (triggeredBy o tagEvent code) c)) (resumes-nothing (o .channel .registers) (o .channel) (o .user) code h)
 
-ignored-command : (o : OneChannel) (value : ℕ) → OnlyD1 value → (o .channel .sequencer .stage ≡ stage.Paused 0 → bitAt value 1 ≡ false)
-    → transition o (command o value) ≡ the.taggedIf (bitAt value 3) o
-ignored-command o value only h =
+pub command-ignored : the.CommandIgnored
+command-ignored o value only h =
     command-resumes o value only
     ∙ ap (λ (c : Channel). withChannel o (taggedIf (bitAt value 3) c)) (resume-nothing (bitAt value 1) (o .channel) 0 0 h)
 
 pub other-pause : the.OtherPause
 other-pause o code j only at off =
-    ignored o code only (λ k e. ap (λ (x : ℕ). triggeredBy o x code) (let same : k ≡ j = cc in same) ∙ off)
+    event-ignored o code only (λ k e. ap (λ (x : ℕ). triggeredBy o x code) (let same : k ≡ j = cc in same) ∙ off)
 
 -- register 0 is Start's
 pub vme-pause : the.VmePause
 vme-pause o code only at = other-pause o code 0 only at (only .1)
 
 pub not-by-d1 : the.NotByD1
-not-by-d1 o value j only at some = ignored-command o value only (λ e. apart j 0 at e (omega arith))
+not-by-d1 o value j only at some = command-ignored o value only (λ e. apart j 0 at e (omega arith))
 
 pub meanwhile : the.Meanwhile
 meanwhile o at =
-    (λ code only. ignored o code only (λ k e. not-resuming k at e), λ value only. ignored-command o value only (λ e. not-resuming 0 at e))
+    (λ code only. event-ignored o code only (λ k e. not-resuming k at e), λ value only. command-ignored o value only (λ e. not-resuming 0 at e))
 
 -- ---- The resume that is taken
 

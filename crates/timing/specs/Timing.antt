@@ -32,7 +32,7 @@ triggeredBy o register code = triggersOf (o .channel .registers) register code
 abbrev pub delay : OneChannel → ℕ → ℕ
 delay o bank = delayOf (o .channel .registers) bank (o .user)
 
--- with a tag, where the event or command asks for one, and otherwise as it was
+-- with a tag, where the event or command asks for one and the channel is armed, and otherwise as it was
 abbrev pub taggedIf : Bool → OneChannel → OneChannel
 taggedIf on o = withChannel o (core.taggedIf on (o .channel))
 
@@ -111,49 +111,66 @@ HeldWord =
 
 -- ---- D. Resume: "Resume k (its event, for pause k) or Commands D1 (VME pause only) loads the current user's delay (0 for D1)."
 
--- an event that is neither Group End nor Start, a command without D2 and D0; either may be a tag
-abbrev pub OnlyResumes : OneChannel → ℕ → Type 0
-OnlyResumes o code = (triggeredBy o groupEndEvent code ≡ false) × (triggeredBy o startEvent code ≡ false)
+-- an event that is neither Group End nor Start, a command without D2 and D0; either may be a resume, and a tag
+abbrev pub NeitherEndsNorStarts : OneChannel → ℕ → Type 0
+NeitherEndsNorStarts o code = (triggeredBy o groupEndEvent code ≡ false) × (triggeredBy o startEvent code ≡ false)
 
-abbrev pub OnlyD1 : ℕ → Type 0
-OnlyD1 value = (bitAt value 2 ≡ false) × (bitAt value 0 ≡ false)
+abbrev pub NeitherD2NorD0 : ℕ → Type 0
+NeitherD2NorD0 value = (bitAt value 2 ≡ false) × (bitAt value 0 ≡ false)
 
 abbrev pub ResumeByEvent : Type 0
 ResumeByEvent =
-    (o : OneChannel) (code k : ℕ) → OnlyResumes o code → 1 ≤ k → k ≤ 4 → triggeredBy o k code ≡ true
+    (o : OneChannel) (code k : ℕ) → NeitherEndsNorStarts o code → 1 ≤ k → k ≤ 4 → triggeredBy o k code ≡ true
     → o .channel .sequencer .stage ≡ stage.Paused k → 1 ≤ o .channel .sequencer .left
     → Resumes o (transition o (eventCall o code)) (delay o k)
 
 -- the VME pause is pause 0
 abbrev pub ResumeByCommand : Type 0
 ResumeByCommand =
-    (o : OneChannel) (value : ℕ) → OnlyD1 value → bitAt value 1 ≡ true
+    (o : OneChannel) (value : ℕ) → NeitherD2NorD0 value → bitAt value 1 ≡ true
     → o .channel .sequencer .stage ≡ stage.Paused 0 → 1 ≤ o .channel .sequencer .left
     → Resumes o (transition o (command o value)) 0
+
+-- in any stage: an event that is no resume of the pause that the channel is in, if it is in one, changes nothing but the tag
+abbrev pub EventIgnored : Type 0
+EventIgnored =
+    (o : OneChannel) (code : ℕ) → NeitherEndsNorStarts o code
+    → ((k : ℕ) → o .channel .sequencer .stage ≡ stage.Paused k → triggeredBy o k code ≡ false)
+    → transition o (eventCall o code) ≡ taggedIf (triggeredBy o tagEvent code) o
+
+-- and so a command that is no resume of the VME pause, if the channel is in it
+abbrev pub CommandIgnored : Type 0
+CommandIgnored =
+    (o : OneChannel) (value : ℕ) → NeitherD2NorD0 value → (o .channel .sequencer .stage ≡ stage.Paused 0 → bitAt value 1 ≡ false)
+    → transition o (command o value) ≡ taggedIf (bitAt value 3) o
+
+-- a tag moves no frame: every tick answers as it would without it
+abbrev pub TagLeavesTicks : Type 0
+TagLeavesTicks = (o : OneChannel) (on : Bool) (j : ℕ) → 1 ≤ j → onTick (taggedIf on o) j ≡ onTick o j
 
 -- an event changes nothing but the tag in a pause whose own Resume register has another code (so Resume k never ends pause j), nor in the VME pause
 abbrev pub OtherPause : Type 0
 OtherPause =
-    (o : OneChannel) (code j : ℕ) → OnlyResumes o code → o .channel .sequencer .stage ≡ stage.Paused j → triggeredBy o j code ≡ false
+    (o : OneChannel) (code j : ℕ) → NeitherEndsNorStarts o code → o .channel .sequencer .stage ≡ stage.Paused j → triggeredBy o j code ≡ false
     → transition o (eventCall o code) ≡ taggedIf (triggeredBy o tagEvent code) o
 
 abbrev pub VmePause : Type 0
 VmePause =
-    (o : OneChannel) (code : ℕ) → OnlyResumes o code → o .channel .sequencer .stage ≡ stage.Paused 0
+    (o : OneChannel) (code : ℕ) → NeitherEndsNorStarts o code → o .channel .sequencer .stage ≡ stage.Paused 0
     → transition o (eventCall o code) ≡ taggedIf (triggeredBy o tagEvent code) o
 
--- D1 changes nothing in pauses 1 to 4
+-- D1 changes nothing in pauses 1 to 4, and the command nothing but the tag
 abbrev pub NotByD1 : Type 0
 NotByD1 =
-    (o : OneChannel) (value j : ℕ) → OnlyD1 value → o .channel .sequencer .stage ≡ stage.Paused j → 1 ≤ j
+    (o : OneChannel) (value j : ℕ) → NeitherD2NorD0 value → o .channel .sequencer .stage ≡ stage.Paused j → 1 ≤ j
     → transition o (command o value) ≡ taggedIf (bitAt value 3) o
 
 -- "Further resumes are ignored meanwhile.": through the delay and the silent ticks (`under-way` of `Resumes`)
 abbrev pub Meanwhile : Type 0
 Meanwhile =
     (o : OneChannel) → o .channel .sequencer .stage ≡ stage.Resuming
-    → ((code : ℕ) → OnlyResumes o code → transition o (eventCall o code) ≡ taggedIf (triggeredBy o tagEvent code) o)
-    × ((value : ℕ) → OnlyD1 value → transition o (command o value) ≡ taggedIf (bitAt value 3) o)
+    → ((code : ℕ) → NeitherEndsNorStarts o code → transition o (eventCall o code) ≡ taggedIf (triggeredBy o tagEvent code) o)
+    × ((value : ℕ) → NeitherD2NorD0 value → transition o (command o value) ≡ taggedIf (bitAt value 3) o)
 
 -- ---- What the premises above ask of the countdown holds of every channel that calls lead to
 
@@ -188,6 +205,9 @@ pub record Timing : Type 0 where
   pub held-word : HeldWord
   pub resume-by-event : ResumeByEvent
   pub resume-by-command : ResumeByCommand
+  pub event-ignored : EventIgnored
+  pub command-ignored : CommandIgnored
+  pub tag-leaves-ticks : TagLeavesTicks
   pub other-pause : OtherPause
   pub vme-pause : VmePause
   pub not-by-d1 : NotByD1
