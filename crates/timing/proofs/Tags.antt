@@ -1,5 +1,5 @@
 -- A tag moves no frame. Assumes nothing.
-use Prim.Native.Nat.{ℕ, _≤_}
+use Prim.Native.Nat.{ℕ}
 use mathlib.Core.Path.{_≡_, refl, sym, ap, _∙_}
 use mathlib.Core.Bool.{Bool, true, false, cond}
 use Rattle.sequencer.specs.declared.Sequencer.{Sequencer}
