@@ -148,7 +148,7 @@ impl Check {
     fn entries(&mut self) {
         let decisions = read(DECISIONS);
         for page in [RULES, ARCHITECTURE, "README.md"] {
-            let gone = |n: &String| !decisions.contains(&format!("### D{n}.")) && !decisions.contains(&format!("| D{n} |"));
+            let gone = |n: &String| !decisions.contains(&format!("### D{n}."));
             let wrongs = cited(&read(page)).into_iter().filter(gone).map(|n| format!("no entry D{n}")).collect();
             self.say(page, wrongs);
         }

@@ -64,10 +64,11 @@ pub record TagRows : Type 0 where
   -- a repeat uses it, and a repeat ends it; a tag for each of two sends
   pub by-repeat : retiredBy (start ∷ (replied ++ (replied ++ (replied ++ (tag ∷ replied))))) ≡ part (0x80000000 ∷ 0 ∷ 0x20000000 ∷ 0x22000000 ∷ [])
   pub ended-by-repeat : retiredBy (start ∷ (replied ++ (replied ++ (tag ∷ (replied ++ replied))))) ≡ part (0x80000000 ∷ 0 ∷ 0x22000000 ∷ 0x20000000 ∷ [])
+  pub two-marks : retiredBy (tag ∷ start ∷ (next (tag ∷ reply 64 3 ∷ []) ++ (replied ++ replied))) ≡ part (0x82000000 ∷ 0x2000000 ∷ 0x20000000 ∷ [])
   -- between two sends it moves none
   pub between : retiredBy (start ∷ (replicate 15 (tick 192) ++ (tag ∷ (replicate 5 (tick 192) ++ (reply 64 3 ∷ []))))) ≡ part (0x2000000 ∷ [])
-  pub two-marks : retiredBy (tag ∷ start ∷ (next (tag ∷ reply 64 3 ∷ []) ++ (replied ++ replied))) ≡ part (0x82000000 ∷ 0x2000000 ∷ 0x20000000 ∷ [])
-  -- the other bits are as they would be: ID 15h, data 1234h; a wrong CRC, D24; a paused word
+  -- every reply to the send has it, and the other bits are as they would be: ID 15h, data 1234h; a wrong CRC, D24; a paused word
+  pub each-reply : retiredBy (tag ∷ start ∷ next (reply 64 3 ∷ reply 64 3 ∷ [])) ≡ part (0x82000000 ∷ 0x82000000 ∷ [])
   pub fields : retiredBy (tag ∷ start ∷ next (reply 64 0x5448d00317 ∷ [])) ≡ part (0x82151234 ∷ [])
   pub wrong-crc : retiredBy (tag ∷ start ∷ next (reply 64 7 ∷ [])) ≡ part (0x83000000 ∷ [])
   pub paused : retiredBy (disarm ∷ writeSetpoint 192 1 1 0 0x10000 ∷ arm ∷ start ∷ (replied ++ (tag ∷ (replied ++ replied))))

@@ -1,5 +1,5 @@
--- Document 02, card 6: what each call makes of tags. What is told of them goes by calls and what they answered alone: arming, disarming and resets, writes to
--- the event registers, events and commands, and the setpoint sends.
+-- Document 02, card 6: what each call makes of tags. What is told of them goes by calls and what they answered: arming, disarming and resets, writes to the
+-- event registers, events and commands, and the setpoint sends. Nothing here looks at the state.
 use Prim.Native.Nat.{ℕ, _-_, _/_, _%_}
 use mathlib.Core.Bool.{Bool, true, false, cond, not, _&&_, _||_}
 use mathlib.Core.List.{List}
@@ -19,16 +19,19 @@ pub record Tags : Type 0 where
 abbrev pub openedTags : Tags
 openedTags = record { armed = false; events = replicate 7 0; tag = false; tagged = false }
 
+-- what a call makes of them
 abbrev pub TagChange : Type 0
 TagChange = Tags → Tags
 
+-- nothing
 abbrev pub leavesTags : TagChange
 leavesTags g = g
 
+-- arming
 abbrev pub armedTags : TagChange
 armedTags g = record { armed = true; events = g .events; tag = g .tag; tagged = g .tagged }
 
--- "Group End, disarm and reset drop a tag not yet used."
+-- disarming: "Group End, disarm and reset drop a tag not yet used."
 abbrev pub disarmedTags : TagChange
 disarmedTags g = record { armed = false; events = g .events; tag = false; tagged = g .tagged }
 
@@ -40,15 +43,16 @@ groupEndedIf on g = record { armed = g .armed; events = g .events; tag = not on 
 abbrev pub taggedIf : Bool → TagChange
 taggedIf on g = record { armed = g .armed; events = g .events; tag = (on && g .armed) || g .tag; tagged = g .tagged }
 
--- an event or a write to Commands: "Tag acts last within one event or command.", after the Group End, if there is one; Start and Resume leave tags
+-- an event: "Tag acts last within one event or command.", after the Group End, if there is one; Start and Resume leave tags
 abbrev pub eventTags : (code : ℕ) → TagChange
 eventTags code g =
     taggedIf (matches (getD (g .events) tagEvent 0) code) (groupEndedIf (matches (getD (g .events) groupEndEvent 0) code) g)
 
+-- a write to Commands: so with D3 and D2
 abbrev pub commandTags : (value : ℕ) → TagChange
 commandTags value g = taggedIf (bitAt value 3) (groupEndedIf (bitAt value 2) g)
 
--- "Event registers keep 9 bits: D8 active, D7–D0 code."
+-- a write to an event register: "Event registers keep 9 bits: D8 active, D7–D0 code."
 abbrev pub eventWritten : (offset value : ℕ) → TagChange
 eventWritten offset value g =
     record { armed = g .armed; events = set (g .events) ((offset - 0x20) / 2) (value % 512); tag = g .tag; tagged = g .tagged }

@@ -1,5 +1,6 @@
--- Document 02, card 6: which stored words have D25 set, over any history. What is told of tags goes by calls and what they answered alone (specs/TagChanges):
--- a setpoint send is a tick that answered a frame, and not a command frame, so that a command frame neither uses nor ends a tag.
+-- Document 02, card 6: which stored words have D25 set, over any history. What is told of tags goes by calls and what they answered (specs/TagChanges): a
+-- setpoint send is a tick that answered a frame, and not a command frame, so that a command frame neither uses nor ends a tag. Which frames are command
+-- frames, and how words are grouped, is told as in specs/History, by the code of the Group End event: `TagsTold` has it that this is what was written.
 use Prim.Native.Nat.{ℕ, _+_, _*_, _<_}
 use mathlib.Core.Path.{_≡_}
 use mathlib.Core.Bool.{Bool, true, cond}
@@ -43,12 +44,13 @@ TagsTold =
 
 -- ---- The words
 
--- of each reply kept for a setpoint send, whether that send used a tag
+-- of each reply kept for a setpoint send, whether that send used a tag; by groups, as the words are (specs/Keeping)
 unfoldable pub marksSince : Tags → Groups Bool → List Told → Groups Bool
 marksSince g marks [] = marks
 marksSince g marks (t ∷ ts) =
     marksSince (tagsAfter g t) (groupsAfter marks (map (λ (word : ℕ). g .tagged) (storedBy t)) (t .entry)) ts
 
+-- of an opening and a list of calls
 abbrev pub marksOver : ℕ → ℕ → List ℕ → List ℕ → List ChannelCall → Groups Bool
 marksOver n m setpoints readbacks ks = marksSince openedTags nothingKept (toldOf (oneChannel n m setpoints readbacks) ks)
 

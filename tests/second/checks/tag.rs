@@ -142,6 +142,13 @@ fn order() -> Done {
         ("a tag before, Group End and tag", is_tagged(&[Command(TAG), Command(GROUP_END | TAG)])),
         ("Start and tag in one event", is_tagged(&[Write(0x82C, 0x111), Event(0x11)])),
         ("all four in one command", is_tagged(&[Command(START | RESUME | GROUP_END | TAG)])),
+        // 000A1101h: D19 and D17, data 1101h; user 2 is D26
+        ("Group End, Start and tag, another user's word", {
+            let mut t = after(&[], &[User(2)]);
+            t.b.set(1, 2, 2, 0, 0x000A_1101, &mut t.s).unwrap();
+            t.acts(&[Write(0x832, 1), Command(GROUP_END | START | TAG), Send]);
+            t.r[7] == FIRST | PAUSED | 1 << 26 | TAGGED | KEPT
+        }),
     ]
 }
 
@@ -165,13 +172,6 @@ fn stands() -> Done {
         ("arming again", is_tagged(&[Command(TAG), Arm])),
         ("a write to 2C", is_tagged(&[Event(0xAA), Write(0x82C, 0)])),
         ("Reset without D0", is_tagged(&[Command(TAG), Write(0x806, 2)])),
-        // 000A1101h: D19 and D17, data 1101h; user 2 is D26
-        ("another user's word", {
-            let mut t = after(&[], &[Command(TAG), User(2)]);
-            t.b.set(1, 2, 2, 0, 0x000A_1101, &mut t.s).unwrap();
-            t.acts(&[Write(0x832, 1), Command(GROUP_END | START | TAG), Send]);
-            t.r[7] == FIRST | PAUSED | 1 << 26 | TAGGED | KEPT
-        }),
     ]
 }
 
