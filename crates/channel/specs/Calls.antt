@@ -1,5 +1,5 @@
 -- Document 01, 'Calls' and 'Register map': the calls that name a channel, but the register calls and the reply, over its own part of the lent memory.
--- Document 02, card 1: what disarm drops.
+-- Document 02, cards 1 and 6: what disarm drops.
 -- Each refusal is decided by one definition (0: none), in the order of document 01's table; what a call does goes by cases on it.
 use Prim.Native.Nat.{ℕ, _-_}
 use mathlib.Core.Bool.{Bool, cond, _&&_, _||_}
@@ -53,7 +53,7 @@ setpointWords c s n user buffer index word =
 unfoldable pub armedOf : Channel → Channel
 armedOf c = withSequencer c (seq.armed (c .sequencer))
 
--- "Disarm idles, without EE."; "Disarm and reset drop a waiting frame.", also of a channel that is not armed
+-- "Disarm idles, without EE."; card 1: "Disarm and reset drop a waiting frame.", also of a channel that is not armed; card 6: and "a tag not yet used"
 unfoldable pub disarmedOf : Channel → Channel
 disarmedOf c = withCommands (withSequencer c (seq.disarmed (c .sequencer))) (dropped (c .commands))
 

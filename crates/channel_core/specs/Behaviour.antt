@@ -52,7 +52,8 @@ userChanged c = withSequencer (withStatus c (earlyEnded (c .status) (c .sequence
 -- ---- Group End
 
 -- "Group End (event, or Commands D2), armed or not: latch EE ..; idle; ..; readback buffers switch, the new one empty; users with Switch D0
--- set switch and the bits clear; the setpoint count is shown, then cleared; latch GE." A command frame that waits for it is due.
+-- set switch and the bits clear; the setpoint count is shown, then cleared; latch GE." A command frame that waits for it is due (card 1), and "a tag not yet
+-- used" is dropped (card 6).
 unfoldable pub groupEnded : Channel → Channel
 groupEnded c =
     record {

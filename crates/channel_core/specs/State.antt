@@ -25,7 +25,8 @@ unfoldable pub opened : Channel
 opened =
     record { status = st.opened; registers = reg.opened; sequencer = seq.opened; readbacks = rb.opened; commands = cmd.opened }
 
--- "Reset D0 returns that channel to its opening state; lent words and its Main bits stay (bench)."
+-- "Reset D0 returns that channel to its opening state; lent words and its Main bits stay (bench)."; so it drops "a waiting frame" (card 1) and "a tag not
+-- yet used" (card 6)
 unfoldable pub reset : Channel → Channel
 reset c =
     record { status = st.reset (c .status); registers = reg.opened; sequencer = seq.opened; readbacks = rb.opened; commands = cmd.opened }

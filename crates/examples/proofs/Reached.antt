@@ -22,7 +22,7 @@ pauses low =
       last-bit = refl;
       deep = omega arith;
       resume-1 = refl;
-      resume-only = (refl, refl);
+      neither-ends-nor-starts = (refl, refl);
     }
 
 pub reached : Reached

@@ -53,7 +53,7 @@ module _ (o : OneChannel) (code : ℕ) (h : PauseOne o code) where
   loaded d e =
       subst (Resumes (paused o) (resumed o code)) (same-delay ∙ e)
       (timing .resume-by-event (paused o) code 1
-      (same-triggeredBy groupEndEvent ∙ h .resume-only .0, same-triggeredBy startEvent ∙ h .resume-only .1)
+      (same-triggeredBy groupEndEvent ∙ h .neither-ends-nor-starts .0, same-triggeredBy startEvent ∙ h .neither-ends-nor-starts .1)
       (omega arith) (omega arith)
       (same-triggeredBy 1 ∙ h .resume-1)
       (starts .done .stage-is ∙ ap stageAfter pause-kind)

@@ -57,7 +57,7 @@ pub record PauseOne (o : OneChannel) (code : ℕ) : Type 0 where
   pub last-bit : bitAt (wordAt o 0) 31 ≡ false
   pub deep : 2 ≤ o .n
   pub resume-1 : triggeredBy o 1 code ≡ true
-  pub resume-only : NeitherEndsNorStarts o code
+  pub neither-ends-nor-starts : NeitherEndsNorStarts o code
 
 -- "sent on tick 10": started by command, and ten ticks later; "then loaded": then the event
 abbrev pub started : OneChannel → OneChannel

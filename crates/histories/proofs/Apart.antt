@@ -17,7 +17,8 @@ use Rattle.sequencer.specs.declared.Stage.the-variants as stage
 use Rattle.sequencer.specs.declared.Sequencer.{Sequencer}
 use Rattle.sequencer.specs.declared.Transmission.{Transmission}
 use Rattle.sequencer.specs.declared.Transmission.the-variants as transmission
-use Rattle.sequencer.specs.Playing.{isIdle, nothingSent, advancing, ticked, tickedAt, resumedAt, loadedResume}
+use Rattle.sequencer.specs.Playing.{isIdle, nothingSent, advancing, ticked, tickedAt, loadedResume}
+use Rattle.sequencer.proofs.Moves.{resumed-either}
 use Rattle.sequencer.specs.Playing as seq
 use Rattle.readback.specs.declared.Disposition.{Disposition}
 use Rattle.readback.specs.declared.Disposition.the-variants as disposition
@@ -124,16 +125,7 @@ module _ (f : CommandFrames) (s : Sequencer) (p : Apart f s) where
       }
 
   apart-resumed : (pause delay : ℕ) → Apart f (seq.resumed s pause delay)
-  unfolding seq.resumed
-  apart-resumed pause delay = go (s .stage) refl
-    where
-      go : (g : Stage) → s .stage ≡ g → Apart f (resumedAt g s pause delay)
-      go stage.Idle e = p
-      go stage.Starting e = p
-      go stage.Running e = p
-      go (stage.Paused k) e = either (Apart f) (eqb k pause) (apart-loaded k delay e) p
-      go stage.Resuming e = p
-      go stage.Ended e = p
+  apart-resumed pause delay = resumed-either (Apart f) s pause delay (apart-loaded pause delay) p
 
   -- another frame, or none, is asked for; an idle channel may ask for the next tick
   apart-requested : Quiet s → (value : ℕ) → (bitAt value 0 && not (s .armed && isIdle (s .stage))) ≡ false

@@ -3,11 +3,11 @@ use Prim.Native.Nat.{ℕ, _≤_, _<_}
 use mathlib.Core.Path.{_≡_, refl, _∙_, subst}
 use mathlib.Core.Bool.{Bool, true, false}
 use native.Mathlib.Omega.{arith}
-use lib.Dec.{eqb}
 use Rattle.sequencer.specs.declared.Stage.{Stage}
 use Rattle.sequencer.specs.declared.Stage.the-variants as stage
 use Rattle.sequencer.specs.declared.Sequencer.{Sequencer}
-use Rattle.sequencer.specs.Playing.{isIdle, armed, started, loadedResume, resumedAt, resumed, tagged, withTag}
+use Rattle.sequencer.specs.Playing.{isIdle, armed, started, loadedResume, resumed, tagged, withTag}
+use Rattle.sequencer.proofs.Moves.{resumed-either}
 use Rattle.channel_core.specs.declared.Channel.{Channel}
 use Rattle.channel_core.specs.Behaviour.{startedIf, resumedIf, taggedIf, resumedOn, eventOf, commanded, endedIf}
 use Rattle.channel_core.specs.Behaviour as core
@@ -78,16 +78,7 @@ keeps-loaded s k delay e =
     }
 
 keeps-resumed : (s : Sequencer) (pause delay : ℕ) → Keeps s (resumed s pause delay)
-unfolding resumed
-keeps-resumed s pause delay = go (s .stage) refl
-  where
-    go : (g : Stage) → s .stage ≡ g → Keeps s (resumedAt g s pause delay)
-    go stage.Idle e = keeps-all s
-    go stage.Starting e = keeps-all s
-    go stage.Running e = keeps-all s
-    go (stage.Paused k) e = either (Keeps s) (eqb k pause) (keeps-loaded s k delay e) (keeps-all s)
-    go stage.Resuming e = keeps-all s
-    go stage.Ended e = keeps-all s
+keeps-resumed s pause delay = resumed-either (Keeps s) s pause delay (keeps-loaded s pause delay) (keeps-all s)
 
 keeps-channel-started : (c : Channel) (delay : ℕ) → Keeps (c .sequencer) (core.started c delay .sequencer)
 unfolding core.started

@@ -25,5 +25,6 @@ pub mod Holding
 pub mod Keeping
 pub mod EndWords
 pub mod Replying
+pub mod EventRegisters
 pub mod Tagged
 pub mod Tags

@@ -199,13 +199,13 @@ tick-steps n s f takes id due p some apart =
 
 -- ---- A reply
 
--- a reply that is due finds the channel not idle, and fewer than six before it
-pub due-facts : (idle : Bool) (l : LastSend) → rb.isDue idle l ≡ true → (idle ≡ false) × (ltb (l .replies) 6 ≡ true)
+-- a reply that is due finds the channel not idle, fewer than six before it, and a send since idle
+pub due-facts : (idle : Bool) (l : LastSend) → rb.isDue idle l ≡ true → (idle ≡ false) × (ltb (l .replies) 6 ≡ true) × (l .sent ≡ true)
 due-facts true l e = clash e
-due-facts false l e = (refl, go (l .sent) e)
+due-facts false l e = let f = go (l .sent) e in (refl, f .0, f .1)
   where
-    go : (b : Bool) → (b && ltb (l .replies) 6) ≡ true → ltb (l .replies) 6 ≡ true
-    go true f = f
+    go : (b : Bool) → (b && ltb (l .replies) 6) ≡ true → (ltb (l .replies) 6 ≡ true) × (b ≡ true)
+    go true f = (f, refl)
     go false f = clash f
 
 answered-steps : {id : ℕ} (n : ℕ) (s : Sequencer) (a : Answer) (due takes : Bool) → isFrame a ≡ false → isReceived a ≡ true → takes ≡ false

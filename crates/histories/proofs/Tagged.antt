@@ -6,20 +6,18 @@ use mathlib.Core.List.{List}
 use native.Mathlib.Omega.{arith}
 use lib.Dec.{eqb, leb, ltb}
 use lib.ListN.{getD, set}
-use borrow.Author.Tests.{leb-true, le-leb, le-ltb, ltb-true, ltb-false}
+use borrow.Author.Tests.{leb-true, le-ltb}
 use Rattle.frame.specs.Frames.{Reading, read, crcRight}
 use Rattle.frame.specs.Frames as frame
 use Rattle.status.specs.Bits.{bitAt}
-use Rattle.registers.specs.declared.Registers.{Registers}
 use Rattle.registers.specs.Map.{periodOf, matches, startEvent, tagEvent, groupEndEvent, triggersOf, delayOf, stored}
 use Rattle.registers.specs.Map as reg
-use Rattle.registers.proofs.Places.{event-stored}
 use Rattle.sequencer.specs.declared.Sequencer.{Sequencer}
 use Rattle.sequencer.specs.declared.Transmission.{Transmission}
 use Rattle.sequencer.specs.declared.Transmission.the-variants as transmission
 use Rattle.sequencer.specs.Playing.{isIdle, withTag}
 use Rattle.sequencer.specs.Playing as seq
-use Rattle.sequencer.specs.Runs.{tagAfter, usedAfter}
+use Rattle.sequencer.specs.Runs.{tagAfter, taggedAfter}
 use Rattle.sequencer.proofs.Moves.{moved, resumed-either}
 use Rattle.readback.specs.declared.Disposition.{Disposition}
 use Rattle.readback.specs.declared.Disposition.the-variants as disposition
@@ -36,7 +34,7 @@ use Rattle.channel.specs.Calls.{armedOf, disarmedOf, mainTaken}
 use Rattle.channel.specs.OneChannel.{ChannelCall, OneChannel, refusalOf, effect, answer, transition, response, mainRead, userChange}
 use Rattle.channel.specs.OneChannel as call
 use Rattle.channel.proofs.Cases.{clash, either, by-test}
-use Rattle.histories.specs.TagChanges.{Tags, TagChange, openedTags, leavesTags, groupEndedIf, taggedIf, eventTags, commandTags, eventWritten, writtenTags, sentTags}
+use Rattle.histories.specs.TagChanges.{Tags, TagChange, openedTags, leavesTags, droppedIf, taggedIf, eventTags, commandTags, eventWritten, writtenTags, sentTags}
 use Rattle.histories.specs.Windows.{Window}
 use Rattle.histories.specs.History.{asks}
 use Rattle.histories.specs.Tags.{tagsAfter}
@@ -45,6 +43,7 @@ use Rattle.histories.proofs.Apart.{ApartIn, apart-nothing}
 use Rattle.histories.proofs.Buffered.{toldAt}
 use Rattle.histories.proofs.Calls.{main-plain}
 use Rattle.histories.proofs.Cases.{by-offset}
+use Rattle.histories.proofs.EventRegisters.{stored-events}
 use Rattle.histories.proofs.Steps.{line-sends}
 use Rattle.histories.proofs.Ticks.{windowOf, windowSent, plays-ticked}
 
@@ -66,12 +65,13 @@ view c =
       tagged = c .sequencer .last .tagged;
     }
 
--- it is as told, the mark of the last send where there is one since idle
+-- it is as told, the mark of the last send where there is one since idle; and a tag waits on an armed channel only
 pub record AsTold (v : View) (g : Tags) : Type 0 where
   pub armed : v .armed ≡ g .armed
   pub events : v .events ≡ g .events
   pub tag : v .tag ≡ g .tag
   pub tagged : v .sent ≡ true → v .tagged ≡ g .tagged
+  pub only-armed : v .tag ≡ true → v .armed ≡ true
 
 abbrev pub Held : Channel → Tags → Type 0
 Held c g = AsTold (view c) g
@@ -84,10 +84,10 @@ same-held c d g e h = subst (λ (v : View). AsTold v g) (sym e) h
 
 -- ---- An event or command
 
-held-ended : (on : Bool) (c : Channel) (g : Tags) → Held c g → Held (endedIf on c) (groupEndedIf on g)
+held-ended : (on : Bool) (c : Channel) (g : Tags) → Held c g → Held (endedIf on c) (droppedIf on g)
 unfolding endedIf groupEnded seq.groupEnded seq.idled reg.groupEnded
-held-ended true c g h = record { armed = h .armed; events = h .events; tag = refl; tagged = λ e. clash e }
-held-ended false c g h = record { armed = h .armed; events = h .events; tag = h .tag; tagged = h .tagged }
+held-ended true c g h = record { armed = h .armed; events = h .events; tag = refl; tagged = λ e. clash e; only-armed = λ e. clash e }
+held-ended false c g h = record { armed = h .armed; events = h .events; tag = h .tag; tagged = h .tagged; only-armed = h .only-armed }
 
 same-started : (on : Bool) (c : Channel) (delay : ℕ) → Same c (startedIf on c delay)
 unfolding startedIf started seq.started
@@ -98,7 +98,7 @@ same-started false c delay = refl
 
 same-resumed : (on : Bool) (c : Channel) (pause delay : ℕ) → Same c (resumedIf on c pause delay)
 unfolding resumedIf
-same-resumed true c pause delay = resumed-either (λ (s : Sequencer). Same c (withSequencer c s)) (c .sequencer) pause delay refl refl
+same-resumed true c pause delay = resumed-either (λ (s : Sequencer). Same c (withSequencer c s)) (c .sequencer) pause delay (λ e. refl) refl
 same-resumed false c pause delay = refl
 
 held-tagged : (on : Bool) (c : Channel) (g : Tags) → Held c g → Held (core.taggedIf on c) (taggedIf on g)
@@ -107,10 +107,22 @@ held-tagged true c g h = go (c .sequencer .armed) refl
   where
     go : (b : Bool) → c .sequencer .armed ≡ b → Held (withSequencer c (cond b (withTag (c .sequencer) true) (c .sequencer))) (taggedIf true g)
     go true e =
-        record { armed = h .armed; events = h .events; tag = sym (ap (λ (x : Bool). x || g .tag) (sym (h .armed) ∙ e)); tagged = h .tagged }
+        record {
+          armed = h .armed;
+          events = h .events;
+          tag = sym (ap (λ (x : Bool). x || g .tag) (sym (h .armed) ∙ e));
+          tagged = h .tagged;
+          only-armed = λ f. e;
+        }
     go false e =
-        record { armed = h .armed; events = h .events; tag = h .tag ∙ sym (ap (λ (x : Bool). x || g .tag) (sym (h .armed) ∙ e)); tagged = h .tagged }
-held-tagged false c g h = record { armed = h .armed; events = h .events; tag = h .tag; tagged = h .tagged }
+        record {
+          armed = h .armed;
+          events = h .events;
+          tag = h .tag ∙ sym (ap (λ (x : Bool). x || g .tag) (sym (h .armed) ∙ e));
+          tagged = h .tagged;
+          only-armed = h .only-armed;
+        }
+held-tagged false c g h = record { armed = h .armed; events = h .events; tag = h .tag; tagged = h .tagged; only-armed = h .only-armed }
 
 held-event : (c : Channel) (user code : ℕ) (g : Tags) → Held c g → Held (eventOf c user code) (eventTags code g)
 unfolding eventOf resumedOn
@@ -120,9 +132,9 @@ held-event c user code g h =
     let e = endedIf ends c in
     let d = resumedOn r (startedIf (triggersOf r startEvent code) e (delayOf r 0 user)) user code in
     subst (Held (eventOf c user code))
-    (ap (λ (l : List ℕ). taggedIf (matches (getD l tagEvent 0) code) (groupEndedIf (matches (getD l groupEndEvent 0) code) g)) (h .events))
-    (held-tagged (triggersOf r tagEvent code) d (groupEndedIf ends g)
-    (same-held e d (groupEndedIf ends g)
+    (ap (λ (l : List ℕ). taggedIf (matches (getD l tagEvent 0) code) (droppedIf (matches (getD l groupEndEvent 0) code) g)) (h .events))
+    (held-tagged (triggersOf r tagEvent code) d (droppedIf ends g)
+    (same-held e d (droppedIf ends g)
     (same-resumed _ _ _ _ ∙ same-resumed _ _ _ _ ∙ same-resumed _ _ _ _ ∙ same-resumed _ _ _ _ ∙ same-started _ _ _)
     (held-ended ends c g h)))
 
@@ -131,36 +143,11 @@ unfolding commanded
 held-command c value g h =
     let e = endedIf (bitAt value 2) c in
     let d = resumedIf (bitAt value 1) (startedIf (bitAt value 0) e 0) 0 0 in
-    let ended = groupEndedIf (bitAt value 2) g in
+    let ended = droppedIf (bitAt value 2) g in
     held-tagged (bitAt value 3) d ended
     (same-held e d ended (same-resumed _ _ _ _ ∙ same-started _ _ _) (held-ended (bitAt value 2) c g h))
 
 -- ---- A register write or read
-
-stored-events : (r : Registers) (offset value : ℕ)
-    → stored r offset value .events
-    ≡ cond (leb 0x20 offset && ltb offset 0x2e) (set (r .events) ((offset - 0x20) / 2) (value % 512)) (r .events)
-unfolding stored
-stored-events r offset value = go (leb 0x20 offset) (ltb offset 0x2e) refl refl
-  where
-    P : Registers → Type 0
-    P x = x .events ≡ r .events
-
-    -- below 20, or from 2E on
-    other : (ltb offset 0x20 ≡ false → ltb offset 0x2e ≡ false) → P (stored r offset value)
-    other past =
-        either P (eqb offset 0x0a) refl
-        (either P (eqb offset 0x14) refl
-        (by-test P (ltb offset 0x20) (λ a. refl)
-        (λ a.
-        by-test P (ltb offset 0x2e) (λ b. clash (sym (past a) ∙ b))
-        (λ b. either P (ltb offset 0x30) refl (either P (ltb offset 0x40) refl (either P (ltb offset 0xe0) refl refl))))))
-
-    go : (low high : Bool) → leb 0x20 offset ≡ low → ltb offset 0x2e ≡ high
-        → stored r offset value .events ≡ cond (low && high) (set (r .events) ((offset - 0x20) / 2) (value % 512)) (r .events)
-    go true true d e = ap (λ (x : Registers). x .events) (event-stored r offset (leb-true 0x20 offset d) (ltb-true offset 0x2e e) value)
-    go true false d e = other (λ a. e)
-    go false high d e = other (λ a. clash (sym d ∙ le-leb 0x20 offset (ltb-false offset 0x20 a)))
 
 held-register : (c : Channel) (offset value : ℕ) (g : Tags) → Held c g → Held (registerEffect c offset value) (writtenTags offset value g)
 unfolding registerEffect reset
@@ -169,7 +156,7 @@ held-register c offset value g h =
     (λ d e f. rw (d, e, f) (kept (leb 0x20 offset && ltb offset 0x2e) refl))
   where
     again : (b : Bool) → Held (cond b (reset c) c) (cond b openedTags g)
-    again true = record { armed = refl; events = refl; tag = refl; tagged = λ e. clash e }
+    again true = record { armed = refl; events = refl; tag = refl; tagged = λ e. clash e; only-armed = λ e. clash e }
     again false = h
 
     kept : (b : Bool) → (leb 0x20 offset && ltb offset 0x2e) ≡ b
@@ -189,12 +176,13 @@ held-register c offset value g h =
         commands : (b : Bool) → (leb 0x20 offset && ltb offset 0x2e) ≡ b → ltb offset 0x2e ≡ false
             → Held (withCommands c (cmd.stored (c .commands) offset value)) (cond b (eventWritten offset value g) g)
         commands true e far = clash (sym (and-false (leb 0x20 offset)) ∙ ap (λ (x : Bool). leb 0x20 offset && x) (sym far) ∙ e)
-        commands false e far = record { armed = h .armed; events = h .events; tag = h .tag; tagged = h .tagged }
+        commands false e far = record { armed = h .armed; events = h .events; tag = h .tag; tagged = h .tagged; only-armed = h .only-armed }
 
         registers : (b : Bool) → stored (c .registers) offset value .events ≡ cond b (written (c .registers .events)) (c .registers .events)
             → Held (withRegisters c (stored (c .registers) offset value)) (cond b (eventWritten offset value g) g)
-        registers true e = record { armed = h .armed; events = e ∙ ap written (h .events); tag = h .tag; tagged = h .tagged }
-        registers false e = record { armed = h .armed; events = e ∙ h .events; tag = h .tag; tagged = h .tagged }
+        registers true e =
+            record { armed = h .armed; events = e ∙ ap written (h .events); tag = h .tag; tagged = h .tagged; only-armed = h .only-armed }
+        registers false e = record { armed = h .armed; events = e ∙ h .events; tag = h .tag; tagged = h .tagged; only-armed = h .only-armed }
 
 same-read : (c : Channel) (offset : ℕ) → Same c (readEffect c offset)
 unfolding readEffect
@@ -237,10 +225,11 @@ held-played o g h transmission.Nothing e =
       tag = a .tag ∙ ap (λ (x : Transmission). tagAfter x (s .tag)) e ∙ h .tag;
       tagged =
           λ sent.
-          a .used
-          ∙ ap (λ (x : Transmission). usedAfter x (s .tag) (s .last .tagged)) e
+          a .last-tagged
+          ∙ ap (λ (x : Transmission). taggedAfter x (s .tag) (s .last .tagged)) e
           ∙ h
           .tagged (sym (ap (λ (w : Window). w .sent) (window ∙ ap (λ (x : Transmission). windowSent (c .registers .id) x (windowOf s)) e)) ∙ sent);
+      only-armed = λ f. a .armed ∙ h .only-armed (sym (a .tag ∙ ap (λ (x : Transmission). tagAfter x (s .tag)) e) ∙ f);
     }
 held-played o g h (transmission.Word word k) e =
     let c = o .channel in
@@ -250,7 +239,8 @@ held-played o g h (transmission.Word word k) e =
       armed = a .armed ∙ h .armed;
       events = h .events;
       tag = a .tag ∙ ap (λ (x : Transmission). tagAfter x (s .tag)) e;
-      tagged = λ sent. a .used ∙ ap (λ (x : Transmission). usedAfter x (s .tag) (s .last .tagged)) e ∙ h .tag;
+      tagged = λ sent. a .last-tagged ∙ ap (λ (x : Transmission). taggedAfter x (s .tag) (s .last .tagged)) e ∙ h .tag;
+      only-armed = λ f. clash (sym (a .tag ∙ ap (λ (x : Transmission). tagAfter x (s .tag)) e) ∙ f);
     }
 
 held-tick : (o : OneChannel) (g : Tags) → ApartIn (o .channel) → Held (o .channel) g
@@ -269,7 +259,7 @@ held-user : (o : OneChannel) (user : ℕ) (g : Tags) → Held (o .channel) g →
 unfolding userChanged seq.idled
 held-user o user g h =
     either (λ (x : OneChannel). Held (x .channel) g) (eqb user (o .user)) h
-    (record { armed = h .armed; events = h .events; tag = h .tag; tagged = λ e. clash e })
+    (record { armed = h .armed; events = h .events; tag = h .tag; tagged = λ e. clash e; only-armed = h .only-armed })
 
 -- ---- Each call
 
@@ -286,8 +276,8 @@ unfolding effect answer armedOf seq.armed disarmedOf seq.disarmed seq.idled
 effect-held o (call.writeRegister lent offset value) g p h = held-register (o .channel) offset value g h
 effect-held o (call.readRegister offset) g p h = same-held (o .channel) (readEffect (o .channel) offset) g (same-read (o .channel) offset) h
 effect-held o (call.writeSetpoint lent user buffer index word) g p h = h
-effect-held o call.arm g p h = record { armed = refl; events = h .events; tag = h .tag; tagged = h .tagged }
-effect-held o call.disarm g p h = record { armed = refl; events = h .events; tag = refl; tagged = λ e. clash e }
+effect-held o call.arm g p h = record { armed = refl; events = h .events; tag = h .tag; tagged = h .tagged; only-armed = λ e. refl }
+effect-held o call.disarm g p h = record { armed = refl; events = h .events; tag = refl; tagged = λ e. clash e; only-armed = λ e. clash e }
 effect-held o (call.reply lent f) g p h =
     plain (o .channel) (replyOf (o .channel) (o .m) f) (answer o (call.reply lent f)) g (reply-plain (o .channel) (o .m) f)
     (same-reply (o .channel) (o .m) f) h

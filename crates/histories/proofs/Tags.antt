@@ -1,18 +1,16 @@
--- After any list of calls D25 is set exactly in the words of the replies kept for a send that used a tag. Assumes nothing.
-use Prim.Native.Nat.{ℕ, zero, suc, _+_, _*_, _<_}
+-- After any list of calls a channel holds what is told of tags, and D25 is set exactly in the words of the replies kept for a send that used one, in what
+-- retired readbacks answers too. Assumes nothing.
+use Prim.Native.Nat.{ℕ}
 use mathlib.Core.Path.{_≡_, refl, sym, _∙_, ap, subst}
-use mathlib.Core.Bool.{Bool, true, false, cond, not, _&&_, _||_}
+use mathlib.Core.Bool.{Bool, true, false, cond, not, _&&_}
 use mathlib.Core.List.{List, [], _∷_, map}
 use native.Mathlib.Omega.{arith}
-use lib.Dec.{eqb, leb, ltb}
+use lib.Dec.{eqb, ltb}
 use lib.ListN.{length, getD, length-map}
 use borrow.Table.Elements.{map-app}
 use Rattle.frame.specs.Frames.{Reading, read, framed, idOf, dataOf, auxOf, crcIn, crcRight}
 use Rattle.frame.specs.Frames as frame
 use Rattle.status.specs.Bits.{bitAt}
-use Rattle.register_map.specs.AccessRule.{channelAccess}
-use Rattle.registers.specs.Map.{matches, groupEndEvent, tagEvent, loaded}
-use Rattle.sequencer.specs.declared.LastSend.{LastSend}
 use Rattle.sequencer.specs.Playing.{isIdle}
 use Rattle.readback.specs.declared.Disposition.the-variants as disposition
 use Rattle.readback.specs.Storing.{isDue, dispositionOf, capacity}
@@ -22,18 +20,19 @@ use Rattle.channel_core.specs.declared.Channel.{Channel}
 use Rattle.channel_core.specs.State as state
 use Rattle.channel_core.specs.Answers as ans
 use Rattle.channel_replies.specs.Replying.{dispositionNow, receiptAnswer, replyAnswerAs, replyAnswer}
-use Rattle.channel_registers.specs.Calls.{readValue}
-use Rattle.channel.specs.OneChannel.{ChannelCall, OneChannel, oneChannel, refusalOf, answer, transition, response, transitions, readRegister}
+use Rattle.channel.specs.OneChannel.{ChannelCall, OneChannel, oneChannel, refusalOf, answer, transition, response, transitions}
 use Rattle.channel.specs.OneChannel as call
-use Rattle.channel.proofs.Cases.{clash, either, by-test}
-use Rattle.histories.specs.TagChanges.{Tags, openedTags, groupEndedIf, taggedIf, writtenTags}
-use Rattle.histories.specs.History.{isKept, Entry, Told, told, toldOf, replyWord, asks, isRefused, sendsSetpoint, resets, endsGroup}
+use Rattle.channel.proofs.Cases.{clash, by-test}
+use Rattle.histories.specs.TagChanges.{Tags, openedTags}
+use Rattle.histories.specs.History.{isKept, Entry, Told, told, replyWord, asks, resets, endsGroup}
 use Rattle.histories.specs.Keeping.{Groups, nothingKept, switched, keptWith, groupsAfter, storedBy, keptAfter, keptSince, keptOver}
 use Rattle.histories.specs.Tags.{tagsAfter, tagsSince, TagsTold, marksSince, marksOver, marksIn, MarksKept, MarksRetired}
 use Rattle.histories.proofs.Buffered.{toldAt}
 use Rattle.histories.proofs.Commands.{toldFrom, told-next}
+use Rattle.histories.proofs.EventRegisters.{reads-event}
 use Rattle.histories.proofs.Keeping.{retires-kept}
 use Rattle.histories.proofs.Ranges.{Ordered, ordered-opened, ordered-step}
+use Rattle.histories.proofs.Steps.{due-facts}
 use Rattle.histories.proofs.Tagged.{Held, held-step}
 
 -- ---- What is told
@@ -48,66 +47,7 @@ held-from o (k ∷ ks) g a h =
 
 held-opened : Held state.opened openedTags
 unfolding state.opened
-held-opened = record { armed = refl; events = refl; tag = refl; tagged = λ e. clash e }
-
--- a tag waits on an armed channel only
-abbrev Only : Tags → Type 0
-Only g = g .tag ≡ true → g .armed ≡ true
-
-only-opened : Only openedTags
-only-opened e = clash e
-
-only-ended : (on : Bool) (g : Tags) → Only g → Only (groupEndedIf on g)
-only-ended true g h e = clash e
-only-ended false g h e = h e
-
-only-tagged : (on : Bool) (g : Tags) → Only g → Only (taggedIf on g)
-only-tagged true g h = go (g .armed) refl
-  where
-    go : (b : Bool) → g .armed ≡ b → (b || g .tag) ≡ true → g .armed ≡ true
-    go true a e = a
-    go false a e = h e
-only-tagged false g h = h
-
-only-written : (offset value : ℕ) (g : Tags) → Only g → Only (writtenTags offset value g)
-only-written offset value g h =
-    either Only (eqb offset 0x06 && bitAt value 0) only-opened
-    (either Only (eqb offset 0x08) (only-tagged (bitAt value 3) (groupEndedIf (bitAt value 2) g) (only-ended (bitAt value 2) g h))
-    (either Only (leb 0x20 offset && ltb offset 0x2e) h h))
-
-only-asked : (o : OneChannel) (k : ChannelCall) (g : Tags) → Only g → Only (asks o k .tags g)
-only-asked o (call.writeRegister lent offset value) g h = only-written offset value g h
-only-asked o (call.readRegister offset) g h = h
-only-asked o (call.writeSetpoint lent user buffer index word) g h = h
-only-asked o call.arm g h = λ e. refl
-only-asked o call.disarm g h = λ e. clash e
-only-asked o (call.reply lent f) g h = h
-only-asked o (call.query which one two) g h = h
-only-asked o (call.tick lent) g h = h
-only-asked o (call.event lent code) g h =
-    let ends = matches (getD (g .events) groupEndEvent 0) code in
-    only-tagged (matches (getD (g .events) tagEvent 0) code) (groupEndedIf ends g) (only-ended ends g h)
-only-asked o (call.changeUser user) g h = h
-only-asked o (call.writeMain lent offset value) g h = h
-only-asked o (call.readMain offset) g h = h
-
-only-since : (g : Tags) (ts : List Told) → Only g → Only (tagsSince g ts)
-unfolding tagsSince
-only-since g [] h = h
-only-since g (t ∷ ts) h =
-    only-since (tagsAfter g t) ts
-    (either Only (isRefused (t .entry)) h (either Only (sendsSetpoint t) (λ e. clash e) (only-asked (t .entry .before) (t .entry .call) g h)))
-
-reads-event : (o : OneChannel) (i : ℕ) → i < 7 → response o (readRegister (0x20 + i * 2)) ≡ ans.value (getD (o .channel .registers .events) i 0)
-unfolding channelAccess response refusalOf answer readValue loaded
-reads-event o zero h = refl
-reads-event o (suc zero) h = refl
-reads-event o (suc (suc zero)) h = refl
-reads-event o (suc (suc (suc zero))) h = refl
-reads-event o (suc (suc (suc (suc zero)))) h = refl
-reads-event o (suc (suc (suc (suc (suc zero))))) h = refl
-reads-event o (suc (suc (suc (suc (suc (suc zero)))))) h = refl
-reads-event o (suc (suc (suc (suc (suc (suc (suc i))))))) h = absurd (omega arith)
+held-opened = record { armed = refl; events = refl; tag = refl; tagged = λ e. clash e; only-armed = λ e. clash e }
 
 pub tags-told : TagsTold
 unfolding state.opened
@@ -119,7 +59,7 @@ tags-told n m setpoints readbacks ks =
       registers = λ i few. reads-event (transitions o ks) i few ∙ ap (λ (l : List ℕ). ans.value (getD l i 0)) (h .events);
       tag = h .tag;
       tagged = h .tagged;
-      only-armed = only-since openedTags (toldOf o ks) only-opened;
+      only-armed = λ e. sym (h .armed) ∙ h .only-armed (h .tag ∙ e);
     }
 
 -- ---- The words
@@ -141,14 +81,6 @@ marked-reply o f = go (framed f)
     go false = refl
 
 -- a reply that is kept, and not for a command frame, finds a send since idle
-due-sent : (idle : Bool) (l : LastSend) → isDue idle l ≡ true → l .sent ≡ true
-due-sent true l e = clash e
-due-sent false l e = go (l .sent) e
-  where
-    go : (b : Bool) → (b && ltb (l .replies) 6) ≡ true → b ≡ true
-    go true e = refl
-    go false e = clash e
-
 disposed-sent : (c : Channel) (m : ℕ) → isKept (receiptAnswer (dispositionNow c m)) ≡ true → c .sequencer .last .sent ≡ true
 unfolding dispositionNow dispositionOf
 disposed-sent c m = go (isDue (isIdle (c .sequencer .stage)) (c .sequencer .last)) (ltb (c .readbacks .stored) (capacity m)) refl
@@ -156,7 +88,7 @@ disposed-sent c m = go (isDue (isIdle (c .sequencer .stage)) (c .sequencer .last
     go : (due space : Bool) → isDue (isIdle (c .sequencer .stage)) (c .sequencer .last) ≡ due
         → isKept (receiptAnswer (cond due (cond space disposition.Kept disposition.Lost) disposition.Unsolicited)) ≡ true
         → c .sequencer .last .sent ≡ true
-    go true space e k = due-sent (isIdle (c .sequencer .stage)) (c .sequencer .last) e
+    go true space e k = due-facts (isIdle (c .sequencer .stage)) (c .sequencer .last) e .2
     go false space e k = clash k
 
 reply-sent : (o : OneChannel) (lent f : ℕ) → (isKept (response o (call.reply lent f)) && not (takes (o .channel .commands))) ≡ true

@@ -1,6 +1,7 @@
 -- Document 01, 'The bench and its memory' and 'A channel's life': the ranges of what a channel holds, which it keeps to over any list of calls. So no
 -- default past a list's end or below a range is ever used. Document 02, card 1: nor that of a tick on which a command frame and a setpoint would leave.
--- Card 2: the count of missing readbacks. Card 3: a place of each readback buffer is left for its end word.
+-- Card 2: the count of missing readbacks. Card 3: a place of each readback buffer is left for its end word. Card 6: 2C is a
+-- seventh event register.
 use Prim.Native.Nat.{ℕ, _-_, _*_, _≤_, _<_}
 use mathlib.Core.Path.{_≡_}
 use mathlib.Core.Bool.{Bool, true, false}

@@ -35,9 +35,9 @@ armedTags g = record { armed = true; events = g .events; tag = g .tag; tagged = 
 abbrev pub disarmedTags : TagChange
 disarmedTags g = record { armed = false; events = g .events; tag = false; tagged = g .tagged }
 
--- a Group End, where it is asked for
-abbrev pub groupEndedIf : Bool → TagChange
-groupEndedIf on g = record { armed = g .armed; events = g .events; tag = not on && g .tag; tagged = g .tagged }
+-- a Group End, where it is asked for: it drops "a tag not yet used"
+abbrev pub droppedIf : Bool → TagChange
+droppedIf on g = record { armed = g .armed; events = g .events; tag = not on && g .tag; tagged = g .tagged }
 
 -- a tag, where it is asked for: "A tag event or Commands D3 on an armed channel marks the next setpoint send."
 abbrev pub taggedIf : Bool → TagChange
@@ -46,11 +46,11 @@ taggedIf on g = record { armed = g .armed; events = g .events; tag = (on && g .a
 -- an event: "Tag acts last within one event or command.", after the Group End, if there is one; Start and Resume leave tags
 abbrev pub eventTags : (code : ℕ) → TagChange
 eventTags code g =
-    taggedIf (matches (getD (g .events) tagEvent 0) code) (groupEndedIf (matches (getD (g .events) groupEndEvent 0) code) g)
+    taggedIf (matches (getD (g .events) tagEvent 0) code) (droppedIf (matches (getD (g .events) groupEndEvent 0) code) g)
 
 -- a write to Commands: so with D3 and D2
 abbrev pub commandTags : (value : ℕ) → TagChange
-commandTags value g = taggedIf (bitAt value 3) (groupEndedIf (bitAt value 2) g)
+commandTags value g = taggedIf (bitAt value 3) (droppedIf (bitAt value 2) g)
 
 -- a write to an event register: "Event registers keep 9 bits: D8 active, D7–D0 code."
 abbrev pub eventWritten : (offset value : ℕ) → TagChange

@@ -43,9 +43,26 @@ allowed-append : (w : World) (xs ys : List Item) → Allowed w (xs ++ ys) → Al
 allowed-append w [] ys a = (tt, a)
 allowed-append w (i ∷ xs) ys a = let b = allowed-append (step w i) xs ys (a .1) in ((a .0, b .0), b .1)
 
-pub good-after : (w : World) (xs : List Item) → Good w → Allowed w xs → Good (worldAfter w xs)
+good-after : (w : World) (xs : List Item) → Good w → Allowed w xs → Good (worldAfter w xs)
 good-after w [] g a = g
 good-after w (i ∷ xs) g a = good-after (step w i) xs (good-step w g i (a .0)) (a .1)
+
+-- the world `w` is a good one, and in it channel c is as `o` is alone
+pub record AsAlone (c m : ℕ) (w : World) (o : OneChannel) : Type 0 where
+  pub good : Good w
+  pub same : view c w ≡ o
+  pub depth : o .m ≡ m
+
+-- so after an allowed list
+pub alone-after : (n m : ℕ) (s r : List ℕ) → openAnswer n m (length s) (length r) ≡ ans.done → (c : ℕ) → Number c
+    → (xs : List Item) → Allowed (opening n m s r) xs
+    → AsAlone c m (worldAfter (opening n m s r) xs) (transitions (oneChannelAt c n m s r) (fed c xs))
+alone-after n m s r opens c h xs a =
+    record {
+      good = good-after (opening n m s r) xs (good-opening n m s r opens) a;
+      same = isolation n m s r opens c (h .low) (h .high) xs a .ends;
+      depth = depths-kept (oneChannelAt c n m s r) (fed c xs) .1;
+    }
 
 -- ---- A word of a channel's readback buffer, in the memory
 
@@ -78,40 +95,41 @@ buffers-long w c h g =
     halves (w .board .m) (own (w .readbacks) (w .board .m * 2) c) (own-length (w .readbacks) (w .board .m * 2) (g .reads ∙ parted-reads (w .board)) c h)
 
 -- what a query answers that is lent them
-pub query-alone : (w : World) (c m : ℕ) → Number c → Good w → w .board .m ≡ m → (which : to.Query) → ownBuffers w c ≡ lentFrom w (queryLending c which)
-    → answer (w .board) (query c which) (ownBuffers w c) ≡ one (response (view c w) (to.query which m m))
+pub query-alone : (w : World) (o : OneChannel) (c m : ℕ) → Number c → AsAlone c m w o
+    → (which : to.Query) → ownBuffers w c ≡ lentFrom w (queryLending c which)
+    → answer (w .board) (query c which) (ownBuffers w c) ≡ one (response o (to.query which m m))
 unfolding answer
-query-alone w c m h g d which lent =
-    let l = buffers-long w c h g in
+query-alone w o c m h a which lent =
+    let l = buffers-long w c h (a .good) in
+    let d = ap (λ (x : OneChannel). x .m) (a .same) ∙ a .depth in
     ap one
     (observe-query w c h which (ownBuffers w c) (inr lent)
-    ∙ ap₂ (λ (x y : ℕ). response (view c w) (to.query which x y)) (l .0 ∙ d) (l .1 ∙ d))
+    ∙ ap₂ (λ (x y : ℕ). response (view c w) (to.query which x y)) (l .0 ∙ d) (l .1 ∙ d)
+    ∙ ap (λ (x : OneChannel). response x (to.query which m m)) (a .same))
 
 -- a channel's word in the memory, by the channel alone
-word-alone : (w : World) (o : OneChannel) (c m : ℕ) (b : Bool) (i : ℕ) → view c w ≡ o → o .m ≡ m → i < m
+word-alone : (w : World) (o : OneChannel) (c m : ℕ) (b : Bool) (i : ℕ) → AsAlone c m w o → i < m
     → getD (w .readbacks) (((c - 1) * 2 + bitOf b) * m + i) 0 ≡ getD (o .readbacks) (placeOf b m i) 0
-word-alone w o c m b i e d within =
-    let depth = ap (λ (x : OneChannel). x .m) e ∙ d in
+word-alone w o c m b i a within =
+    let depth = ap (λ (x : OneChannel). x .m) (a .same) ∙ a .depth in
     sym (own-word (w .readbacks) c m b i within)
     ∙ ap (λ (x : ℕ). getD (own (w .readbacks) (x * 2) c) (placeOf b m i) 0) (sym depth)
-    ∙ ap (λ (x : OneChannel). getD (x .readbacks) (placeOf b m i) 0) e
+    ∙ ap (λ (x : OneChannel). getD (x .readbacks) (placeOf b m i) 0) (a .same)
 
 -- two worlds in which channel c is as these are alone: its end word
-found-alone : (c m : ℕ) (h : Number c) (ended now : World) (x y : OneChannel) → Good ended → view c ended ≡ x → view c now ≡ y → x .m ≡ m → y .m ≡ m
+found-alone : (c m : ℕ) (h : Number c) (ended now : World) (x y : OneChannel) → AsAlone c m ended x → AsAlone c m now y
     → alone.EndWord x y m → EndWord c m ended now
-found-alone c m h ended now x y g e f d d' q =
+found-alone c m h ended now x y a b q =
     record {
       register = q .active .word;
-      active = register-shown c h ended 0x0e (omega arith) ∙ ap (λ (z : OneChannel). response z (to.readRegister 0x0e)) e ∙ q .active .answers;
+      active = register-shown c h ended 0x0e (omega arith) ∙ ap (λ (z : OneChannel). response z (to.readRegister 0x0e)) (a .same) ∙ q .active .answers;
       count = q .count;
-      counted =
-          query-alone ended c m h g (ap (λ (z : OneChannel). z .m) e ∙ d) to.retiredLength refl
-          ∙ ap one (ap (λ (z : OneChannel). response z (to.query to.retiredLength m m)) e ∙ q .counted);
+      counted = query-alone ended x c m h a to.retiredLength refl ∙ ap one (q .counted);
       within = q .within;
       word =
           ap (λ (b : Bool). getD (now .readbacks) (((c - 1) * 2 + bitOf (not b)) * m + q .count) 0) (q .active .bit-is)
           ∙ ap (λ (b : Bool). getD (now .readbacks) (((c - 1) * 2 + bitOf b) * m + q .count) 0) (Bool·not-not (q .second))
-          ∙ word-alone now y c m (q .second) (q .count) f d' (q .within) ∙ q .word;
+          ∙ word-alone now y c m (q .second) (q .count) b (q .within) ∙ q .word;
     }
 
 pub end-word-stands : EndWordStands
@@ -119,11 +137,9 @@ end-word-stands n m s r opens c low high xs a retired =
     let h : Number c = record { low = low; high = high } in
     let f = open-fits n m s r opens in
     let w = worldAfter (opening n m s r) xs in
-    let start = oneChannelAt c n m s r in
-    let o = transitions start (fed c xs) in
-    let e : view c w ≡ o = isolation n m s r opens c low high xs a .ends in
-    let d = depths-kept start (fed c xs) .1 in
-    found-alone c m h w w o o (good-after (opening n m s r) xs (good-opening n m s r opens) a) e e d d
+    let o = transitions (oneChannelAt c n m s r) (fed c xs) in
+    let x = alone-after n m s r opens c h xs a in
+    found-alone c m h w w o o x x
     (stands-alone n m (own s (n * 16) c) (own r (m * 2) c) (f .1) (open-own n m s r opens c h .1) (fed c xs) retired)
 
 -- ---- A Group End, and what comes after it
@@ -133,11 +149,8 @@ module _
     (before : List Item) (groupEnd : Item) (later : List Item) (a : Allowed (opening n m s r) (before ++ (groupEnd ∷ later)))
     (k : ChannelCall) (fed-end : feeds c groupEnd ≡ k ∷ [])
   where
-    abbrev start : OneChannel
-    start = oneChannelAt c n m s r
-
     abbrev o : OneChannel
-    o = transitions start (fed c before)
+    o = transitions (oneChannelAt c n m s r) (fed c before)
 
     abbrev w : World
     w = worldAfter (opening n m s r) before
@@ -145,24 +158,30 @@ module _
     cut : Allowed (opening n m s r) before × Allowed w (groupEnd ∷ later)
     cut = allowed-append (opening n m s r) before (groupEnd ∷ later) a
 
-    good : Good w
-    good = good-after (opening n m s r) before (good-opening n m s r opens) (cut .0)
-
     -- channel c before the Group End, after it, and at the end of the list
-    view-before : view c w ≡ o
-    view-before = isolation n m s r opens c (h .low) (h .high) before (cut .0) .ends
+    before-end : AsAlone c m w o
+    before-end = alone-after n m s r opens c h before (cut .0)
 
-    view-ended : view c (step w groupEnd) ≡ transition o k
-    view-ended =
-        along c h (groupEnd ∷ []) w good (cut .1 .0, tt) .ends
-        ∙ ap (λ (ks : List ChannelCall). transitions (view c w) (ks ++ [])) fed-end
-        ∙ ap (λ (x : OneChannel). transition x k) view-before
+    ended : AsAlone c m (step w groupEnd) (transition o k)
+    ended =
+        record {
+          good = good-step w (before-end .good) groupEnd (cut .1 .0);
+          same =
+              along c h (groupEnd ∷ []) w (before-end .good) (cut .1 .0, tt) .ends
+              ∙ ap (λ (ks : List ChannelCall). transitions (view c w) (ks ++ [])) fed-end
+              ∙ ap (λ (x : OneChannel). transition x k) (before-end .same);
+          depth = depths-step o k .1 ∙ before-end .depth;
+        }
 
-    view-later : view c (worldAfter (opening n m s r) (before ++ (groupEnd ∷ later))) ≡ transitions (transition o k) (fed c later)
-    view-later =
-        ap (view c) (world-append (opening n m s r) before (groupEnd ∷ later))
-        ∙ along c h later (step w groupEnd) (good-step w good groupEnd (cut .1 .0)) (cut .1 .1) .ends
-        ∙ ap (λ (x : OneChannel). transitions x (fed c later)) view-ended
+    at-last : AsAlone c m (worldAfter (opening n m s r) (before ++ (groupEnd ∷ later))) (transitions (transition o k) (fed c later))
+    at-last =
+        subst (λ (x : World). AsAlone c m x (transitions (transition o k) (fed c later)))
+        (sym (world-append (opening n m s r) before (groupEnd ∷ later)))
+        (record {
+          good = good-after (step w groupEnd) later (ended .good) (cut .1 .1);
+          same = along c h later (step w groupEnd) (ended .good) (cut .1 .1) .ends ∙ ap (λ (x : OneChannel). transitions x (fed c later)) (ended .same);
+          depth = depths-kept (transition o k) (fed c later) .1 ∙ ended .depth;
+        })
 
     abbrev second-retires : Bool
     second-retires = secondActiveOver n m (own s (n * 16) c) (own r (m * 2) c) (fed c before)
@@ -171,13 +190,11 @@ module _
         → EndWord c m (step w groupEnd) (worldAfter (opening n m s r) (before ++ (groupEnd ∷ later)))
     stays ends retired =
         let f = open-fits n m s r opens in
-        let d = depths-step o k .1 ∙ depths-kept start (fed c before) .1 in
         found-alone c m h (step w groupEnd) (worldAfter (opening n m s r) (before ++ (groupEnd ∷ later))) (transition o k)
-        (transitions (transition o k) (fed c later)) (good-step w good groupEnd (cut .1 .0)) view-ended view-later d
-        (depths-kept (transition o k) (fed c later) .1 ∙ d)
+        (transitions (transition o k) (fed c later)) ended at-last
         (stays-alone n m (own s (n * 16) c) (own r (m * 2) c) (f .1) (open-own n m s r opens c h .1) (fed c before) k (fed c later)
-        (subst (λ (x : OneChannel). endsGroup (entry x k) ≡ true) view-before ends)
-        (subst (λ (x : OneChannel). StaysRetired second-retires (history x (fed c later))) view-ended retired))
+        (subst (λ (x : OneChannel). endsGroup (entry x k) ≡ true) (before-end .same) ends)
+        (subst (λ (x : OneChannel). StaysRetired second-retires (history x (fed c later))) (ended .same) retired))
 
 pub end-word-stays : EndWordStays
 end-word-stays n m s r opens c low high before groupEnd later a k fed-end ends retired =

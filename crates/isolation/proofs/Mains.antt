@@ -1,13 +1,11 @@
 -- Main's statuses: each channel's bit stands at its place in the word, and a read takes each channel's once. Assumes nothing.
 use Prim.Native.Nat.{ℕ, zero, suc, _+_, _/_, _%_, _≤_}
 use mathlib.Core.Path.{_≡_}
-use mathlib.Core.Bool.{Bool, true, false}
+use mathlib.Core.Bool.{Bool}
 use native.Mathlib.Omega.{arith}
 use lib.ListN.{length}
-use lib.Dec.{eqb}
-use borrow.Author.Tests.{eq-eqb, ne-eqb}
 use Rattle.status.specs.Bits.{bitAt, bitOf}
-use Rattle.status.proofs.Words.{bit-small}
+use Rattle.status.proofs.Words.{bit-small, bit-is}
 use Rattle.channel_core.specs.declared.Channel.{Channel}
 use Rattle.channel_core.specs.State.{opened}
 use Rattle.channel.specs.Calls.{mainBit, mainTaken}
@@ -16,10 +14,6 @@ use Rattle.board_state.specs.State.{channelAt}
 use Rattle.board_state.specs.Main.{mainWord, mainStatus, eventBit, statusRead, takenAt}
 use Rattle.isolation.proofs.Parts.{Number}
 use Rattle.isolation.proofs.Cases.{four-stored}
-
-bit-is : (x : ℕ) (t : Bool) → x ≡ bitOf t → eqb x 1 ≡ t
-bit-is x true e = eq-eqb x 1 e
-bit-is x false e = ne-eqb x 1 (λ q. omega (arith, e, q))
 
 module _ (u : ℕ) (a b c d e : Bool) where
   small : (bitOf a ≤ 1) × (bitOf b ≤ 1) × (bitOf c ≤ 1) × (bitOf d ≤ 1) × (bitOf e ≤ 1)

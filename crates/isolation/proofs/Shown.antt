@@ -19,7 +19,7 @@ use Rattle.board.specs.Calls.{tickBoardAnswer}
 use Rattle.board_channels.specs.Calls.{setpointAnswer}
 use Rattle.board_registers.specs.Calls.{readAnswer}
 use Rattle.board.specs.Worlds.{World}
-use Rattle.isolation.specs.Calls.{readRegister, writeSetpoint, tick, Lent, none, words, first, answer, refused, given, worldAfter, opening}
+use Rattle.isolation.specs.Calls.{writeSetpoint, tick, Lent, none, words, first, answer, refused, given, worldAfter, opening}
 use Rattle.isolation.specs.Feeding.{fed, view}
 use Rattle.isolation.specs.Isolation.{oneChannelAt, MatchesOneChannel, Shows, IsolationShown, MissingCounted, astray, NotVacuous}
 use Rattle.isolation.proofs.Parts.{Number}

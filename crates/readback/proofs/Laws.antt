@@ -6,9 +6,11 @@ use mathlib.Core.List.{List}
 use native.Mathlib.Omega.{arith}
 use lib.ListN.{length, getD}
 use lib.Seq.{getD-set-same}
-use borrow.Author.Tests.{le-ltb, eq-eqb, ne-eqb}
+use borrow.Author.Tests.{le-ltb}
 use Rattle.status.specs.Bits.{bitAt, bitOf}
+use Rattle.status.proofs.Words.{bit-small, bit-is}
 use Rattle.sequencer.specs.declared.LastSend.{LastSend}
+use Rattle.sequencer.specs.Runs.{unmarked}
 use Rattle.readback.specs.declared.Readbacks.{Readbacks}
 use Rattle.readback.specs.Storing.{capacity, storedWord, placeOf, endWord, LikeEnd, endWords, keptWords}
 
@@ -21,14 +23,6 @@ pub end-after-stored : (r : Readbacks) (s : List ℕ) (second : Bool) (m : ℕ) 
 end-after-stored r s true m h l k = getD-set-same s _ endWord 0 (omega arith)
 end-after-stored r s false m h l k = getD-set-same s _ endWord 0 (omega arith)
 
--- the same send with no tag used
-abbrev pub untagged : LastSend → LastSend
-untagged l = record { sent = l .sent; first = l .first; paused = l .paused; last = l .last; id = l .id; tagged = false; replies = l .replies }
-
-bit-at-most : (b : Bool) → bitOf b ≤ 1
-bit-at-most true = omega arith
-bit-at-most false = omega arith
-
 bit-unset : (b : Bool) → bitOf b ≡ 0 → b ≡ false
 bit-unset true e = absurd (omega arith)
 bit-unset false e = refl
@@ -37,18 +31,14 @@ bit-set : (b : Bool) → bitOf b ≡ 1 → b ≡ true
 bit-set true e = refl
 bit-set false e = absurd (omega arith)
 
-bit-back : (b : Bool) (w k : ℕ) → w / 2 ^ k % 2 ≡ bitOf b → bitAt w k ≡ b
-bit-back true w k e = eq-eqb (w / 2 ^ k % 2) 1 e
-bit-back false w k e = ne-eqb (w / 2 ^ k % 2) 1 (λ f. omega (arith, f, e))
-
 module _ (l : LastSend) (user : ℕ) (wrong : Bool) (id word : ℕ) (short : id < 256) (narrow : word < 65536) where
   -- D25 of a stored word is set exactly where its send used a tag
   pub stored-tag : bitAt (storedWord l user wrong id word) 25 ≡ l .tagged
   unfolding storedWord
-  stored-tag = bit-back (l .tagged) (storedWord l user wrong id word) 25 (omega (arith, bit-at-most (l .tagged), bit-at-most wrong))
+  stored-tag = bit-is (storedWord l user wrong id word / 2 ^ 25 % 2) (l .tagged) (omega (arith, bit-small (l .tagged), bit-small wrong))
 
   -- its other bits are as they would be without
-  pub tag-adds : l .tagged ≡ true → storedWord l user wrong id word ≡ storedWord (untagged l) user wrong id word + 0x2000000
+  pub tag-adds : l .tagged ≡ true → storedWord l user wrong id word ≡ storedWord (unmarked l) user wrong id word + 0x2000000
   unfolding storedWord
   tag-adds e = rw e (omega arith)
 
@@ -61,14 +51,14 @@ module _ (l : LastSend) (user : ℕ) (wrong : Bool) (id word : ℕ) (short : id 
       only : storedWord l user wrong id word ≡ endWord → LikeEnd l user wrong id word
       only e =
           record {
-            tagged = bit-set (l .tagged) (omega (arith, bit-at-most (l .tagged), bit-at-most wrong));
+            tagged = bit-set (l .tagged) (omega (arith, bit-small (l .tagged), bit-small wrong));
             not-first = bit-unset (l .first) (omega arith);
             not-paused = bit-unset (l .paused) (omega arith);
             not-last = bit-unset (l .last) (omega arith);
-            first-user = omega (arith, bit-at-most (l .tagged), bit-at-most wrong);
-            right = bit-unset wrong (omega (arith, bit-at-most (l .tagged), bit-at-most wrong));
-            id-0 = omega (arith, bit-at-most (l .tagged), bit-at-most wrong);
-            data-0 = omega (arith, bit-at-most (l .tagged), bit-at-most wrong);
+            first-user = omega (arith, bit-small (l .tagged), bit-small wrong);
+            right = bit-unset wrong (omega (arith, bit-small (l .tagged), bit-small wrong));
+            id-0 = omega (arith, bit-small (l .tagged), bit-small wrong);
+            data-0 = omega (arith, bit-small (l .tagged), bit-small wrong);
           }
 
       back : LikeEnd l user wrong id word → storedWord l user wrong id word ≡ endWord

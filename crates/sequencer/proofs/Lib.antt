@@ -2,4 +2,4 @@ pub mod WordKinds
 pub mod Steps
 pub mod Moves
 pub mod Laws
-pub mod Transmitting
+pub mod Untagged

@@ -4,11 +4,11 @@ use mathlib.Core.Path.{_≡_, refl, ap, _∙_}
 use mathlib.Core.Bool.{Bool, true, false, cond, _&&_}
 use native.Mathlib.Omega.{arith}
 use lib.Dec.{leb, ltb, eqb}
-use borrow.Author.Tests.{eq-eqb, ne-eqb, ltb-true, ltb-false}
+use borrow.Author.Tests.{eq-eqb, ne-eqb, eqb-true, ltb-true, ltb-false}
 use Rattle.status.specs.Bits.{bitAt}
 use Rattle.sequencer.specs.Words.{kindOf}
 use Rattle.sequencer.specs.Playing.{opened, idled, armed, disarmed, started, loadedResume, resumedAt, resumed, answered, groupEnded, tagged, withTag, shortfall, sentNext, sentAs, repeated, quiet, withLeft, withResume, advancing, repeating, resuming, tickedAt, ticked}
-use Rattle.sequencer.specs.Runs.{countAfter, missingAfter, tagAfter, usedAfter, asNumber}
+use Rattle.sequencer.specs.Runs.{countAfter, missingAfter, tagAfter, taggedAfter, asNumber}
 use Rattle.sequencer.specs.declared.Kind.the-variants as kind
 use Rattle.sequencer.specs.declared.Stage.{Stage}
 use Rattle.sequencer.specs.declared.Stage.the-variants as stage
@@ -18,19 +18,27 @@ use Rattle.sequencer.specs.declared.Transmission.{Transmission}
 use Rattle.sequencer.specs.declared.Transmission.the-variants as transmission
 use Rattle.sequencer.specs.declared.Ticked.{Ticked}
 
-resumed-at : (g : Stage) (s : Sequencer) (k delay : ℕ) → (g ≡ stage.Paused k → ⊥) → resumedAt g s k delay ≡ s
-resumed-at stage.Idle s k delay h = refl
-resumed-at stage.Starting s k delay h = refl
-resumed-at stage.Running s k delay h = refl
-resumed-at (stage.Paused j) s k delay h =
-    ap (λ (e : Bool). cond e (loadedResume s delay) s) (ne-eqb j k (λ e. h (ap stage.Paused e)))
-resumed-at stage.Resuming s k delay h = refl
-resumed-at stage.Ended s k delay h = refl
+-- a resume is loaded, in its own pause, or changes nothing
+pub resumed-either : (P : Sequencer → Type 0) (s : Sequencer) (k delay : ℕ) → (s .stage ≡ stage.Paused k → P (loadedResume s delay)) → P s
+    → P (resumed s k delay)
+unfolding resumed
+resumed-either P s k delay h g = go (s .stage) refl
+  where
+    loaded : (j : ℕ) → s .stage ≡ stage.Paused j → (e : Bool) → eqb j k ≡ e → P (cond e (loadedResume s delay) s)
+    loaded j at true e = h (at ∙ ap stage.Paused (eqb-true j k e))
+    loaded j at false e = g
+
+    go : (at : Stage) → s .stage ≡ at → P (resumedAt at s k delay)
+    go stage.Idle e = g
+    go stage.Starting e = g
+    go stage.Running e = g
+    go (stage.Paused j) e = loaded j e (eqb j k) refl
+    go stage.Resuming e = g
+    go stage.Ended e = g
 
 -- 5. Resume k changes nothing unless the sequencer is in pause k.
 pub resume-ignored : (s : Sequencer) (k delay : ℕ) → (s .stage ≡ stage.Paused k → ⊥) → resumed s k delay ≡ s
-unfolding resumed
-resume-ignored s k delay h = resumed-at (s .stage) s k delay h
+resume-ignored s k delay h = resumed-either (λ (t : Sequencer). t ≡ s) s k delay (λ e. absurd (h e)) refl
 
 -- so not in another pause, and not while a resume is under way
 pub resume-other : (s : Sequencer) (j k delay : ℕ) → s .stage ≡ stage.Paused j → (j ≡ k → ⊥) → resumed s k delay ≡ s
@@ -57,7 +65,7 @@ pub record Moved (s : Sequencer) (t : Ticked) : Type 0 where
   pub count : t .sequencer .count ≡ countAfter (t .transmission) (s .count)
   pub missing : t .sequencer .missing ≡ missingAfter (t .transmission) (s .last) (s .missing)
   pub tag : t .sequencer .tag ≡ tagAfter (t .transmission) (s .tag)
-  pub used : t .sequencer .last .tagged ≡ usedAfter (t .transmission) (s .tag) (s .last .tagged)
+  pub last-tagged : t .sequencer .last .tagged ≡ taggedAfter (t .transmission) (s .tag) (s .last .tagged)
   pub armed : t .sequencer .armed ≡ s .armed
 
 moved-if : (s : Sequencer) (e : Bool) (a b : Ticked) → Moved s a → Moved s b → Moved s (cond e a b)
@@ -66,11 +74,11 @@ moved-if s false a b h k = k
 
 -- nothing is transmitted, and only a countdown moves
 moved-left : (s : Sequencer) (left : ℕ) → Moved s (quiet (withLeft s left))
-moved-left s left = record { count = refl; missing = refl; tag = refl; used = refl; armed = refl }
+moved-left s left = record { count = refl; missing = refl; tag = refl; last-tagged = refl; armed = refl }
 
 moved-next : (s : Sequencer) (due n p id : ℕ) → Moved s (sentNext s due n p id)
 unfolding sentNext sentAs
-moved-next s due n p id = record { count = refl; missing = refl; tag = refl; used = refl; armed = refl }
+moved-next s due n p id = record { count = refl; missing = refl; tag = refl; last-tagged = refl; armed = refl }
 
 moved-advancing : (s : Sequencer) (due n p id : ℕ) → Moved s (advancing s due n p id)
 unfolding advancing
@@ -79,7 +87,7 @@ moved-advancing s due n p id = moved-if s (leb (s .left) 1) (sentNext s due n p 
 moved-repeating : (s : Sequencer) (p id : ℕ) → Moved s (repeating s p id)
 unfolding repeating repeated
 moved-repeating s p id =
-    moved-if s (leb (s .left) 1) (repeated s p id) _ (record { count = refl; missing = refl; tag = refl; used = refl; armed = refl })
+    moved-if s (leb (s .left) 1) (repeated s p id) _ (record { count = refl; missing = refl; tag = refl; last-tagged = refl; armed = refl })
     (moved-left s (s .left - 1))
 
 moved-resuming : (s : Sequencer) (due n p id : ℕ) → Moved s (resuming s due n p id)
@@ -90,11 +98,11 @@ moved-resuming s due n p id =
     moved-if s (leb (s .resume) 1) (sentNext s due n p id) (cond (leb (s .resume) 10) (quiet t) (repeating t p id))
     (moved-next s due n p id)
     (moved-if s (leb (s .resume) 10) (quiet t) (repeating t p id)
-    (record { count = refl; missing = refl; tag = refl; used = refl; armed = refl })
-    (record { count = r .count; missing = r .missing; tag = r .tag; used = r .used; armed = r .armed }))
+    (record { count = refl; missing = refl; tag = refl; last-tagged = refl; armed = refl })
+    (record { count = r .count; missing = r .missing; tag = r .tag; last-tagged = r .last-tagged; armed = r .armed }))
 
 moved-at : (g : Stage) (s : Sequencer) (due n p id : ℕ) → Moved s (tickedAt g s due n p id)
-moved-at stage.Idle s due n p id = record { count = refl; missing = refl; tag = refl; used = refl; armed = refl }
+moved-at stage.Idle s due n p id = record { count = refl; missing = refl; tag = refl; last-tagged = refl; armed = refl }
 moved-at stage.Starting s due n p id = moved-advancing s due n p id
 moved-at stage.Running s due n p id = moved-advancing s due n p id
 moved-at (stage.Paused k) s due n p id = moved-repeating s p id
@@ -107,23 +115,6 @@ pub moved : (s : Sequencer) (due n p id : ℕ) → Moved s (ticked s due n p id)
 unfolding ticked
 moved s due n p id = moved-at (s .stage) s due n p id
 
--- a resume is loaded, or changes nothing
-pub resumed-either : (P : Sequencer → Type 0) (s : Sequencer) (k delay : ℕ) → P (loadedResume s delay) → P s → P (resumed s k delay)
-unfolding resumed
-resumed-either P s k delay h g = go (s .stage)
-  where
-    loaded : (e : Bool) → P (cond e (loadedResume s delay) s)
-    loaded true = h
-    loaded false = g
-
-    go : (at : Stage) → P (resumedAt at s k delay)
-    go stage.Idle = g
-    go stage.Starting = g
-    go stage.Running = g
-    go (stage.Paused j) = loaded (eqb j k)
-    go stage.Resuming = g
-    go stage.Ended = g
-
 -- both counts stay
 abbrev CountsStay : Sequencer → Sequencer → Type 0
 CountsStay s t = (t .count ≡ s .count) × (t .missing ≡ s .missing)
@@ -134,17 +125,23 @@ pub counts-stay : (s : Sequencer)
     × CountsStay s (armed s)
     × CountsStay s (disarmed s)
     × CountsStay s (answered s)
+    × CountsStay s (tagged s)
     × ((delay : ℕ) → CountsStay s (started s delay))
     × ((k delay : ℕ) → CountsStay s (resumed s k delay))
-unfolding idled armed disarmed answered started resumed
+unfolding idled armed disarmed answered tagged started
 counts-stay s = (
   (refl, refl),
   (refl, refl),
   (refl, refl),
   (refl, refl),
+  tag (s .armed),
   λ delay. (refl, refl),
-  λ k delay. resumed-either (CountsStay s) s k delay (refl, refl) (refl, refl),
+  λ k delay. resumed-either (CountsStay s) s k delay (λ e. (refl, refl)) (refl, refl),
 )
+  where
+    tag : (b : Bool) → CountsStay s (cond b (withTag s true) s)
+    tag true = (refl, refl)
+    tag false = (refl, refl)
 
 -- but Group End clears the setpoint count, and it alone
 pub group-end-counts : (s : Sequencer) → (groupEnded s .count ≡ 0) × (groupEnded s .missing ≡ s .missing)
@@ -194,7 +191,7 @@ pub tag-stays : (s : Sequencer)
     × ((delay : ℕ) → started s delay .tag ≡ s .tag)
     × ((k delay : ℕ) → resumed s k delay .tag ≡ s .tag)
 unfolding idled answered started
-tag-stays s = (refl, refl, λ delay. refl, λ k delay. resumed-either (λ (t : Sequencer). t .tag ≡ s .tag) s k delay refl refl)
+tag-stays s = (refl, refl, λ delay. refl, λ k delay. resumed-either (λ (t : Sequencer). t .tag ≡ s .tag) s k delay (λ e. refl) refl)
 
 pub tag-dropped : (s : Sequencer) → (groupEnded s .tag ≡ false) × (disarmed s .tag ≡ false) × (opened .tag ≡ false)
 unfolding groupEnded disarmed

@@ -4,7 +4,7 @@ use Prim.Native.Nat.{ℕ, zero, suc, _+_, _*_, _<_}
 use mathlib.Core.Path.{_≡_}
 use mathlib.Core.Bool.{Bool, true, false}
 use Rattle.sequencer.specs.Words.{atEnd, kindOf, stageAfter, indexAfter, conditionOf}
-use Rattle.sequencer.specs.Playing.{ticked, counted, shortfall, missingWith}
+use Rattle.sequencer.specs.Playing.{ticked, counted, shortfall, missingWith, withLast, withTag}
 use Rattle.sequencer.specs.declared.Kind.{Kind}
 use Rattle.sequencer.specs.declared.Stage.{Stage}
 use Rattle.sequencer.specs.declared.Stage.the-variants as stage
@@ -97,9 +97,16 @@ tagAfter transmission.Nothing tag = tag
 tagAfter (transmission.Word word condition) tag = false
 
 -- whether the last send used a tag: "the send after it ends the mark"
-abbrev pub usedAfter : Transmission → (tag used : Bool) → Bool
-usedAfter transmission.Nothing tag used = used
-usedAfter (transmission.Word word condition) tag used = tag
+abbrev pub taggedAfter : Transmission → (tag tagged : Bool) → Bool
+taggedAfter transmission.Nothing tag tagged = tagged
+taggedAfter (transmission.Word word condition) tag tagged = tag
+
+-- the same send, with no tag used; and the same state, with none waiting and none used
+abbrev pub unmarked : LastSend → LastSend
+unmarked l = record { sent = l .sent; first = l .first; paused = l .paused; last = l .last; id = l .id; tagged = false; replies = l .replies }
+
+abbrev pub untagged : Sequencer → Sequencer
+untagged s = withTag (withLast s (unmarked (s .last))) false
 
 -- how many words a tick that transmits this sends
 abbrev pub asNumber : Transmission → ℕ

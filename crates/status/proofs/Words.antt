@@ -6,8 +6,10 @@ use mathlib.Core.Bool.{Bool, true, false}
 use native.Mathlib.Omega.{arith}
 use native.Mathlib.Nat.{pow-suc, div-eq-of-lt}
 use lib.ListN.{length, getD, drop, length-drop, drop-of-length-le}
+use lib.Dec.{eqb}
 use lib.Pow.{pow-mono}
 use lib.Seq.{drop-cons}
+use borrow.Author.Tests.{eq-eqb, ne-eqb}
 use Rattle.status.specs.Bits.{bitAt, bitOf, wordOfBits}
 
 -- a word of sixteen bits has none at 16 and above
@@ -19,6 +21,10 @@ bit-past word k h l =
 pub bit-small : (b : Bool) → bitOf b ≤ 1
 bit-small true = omega arith
 bit-small false = omega arith
+
+pub bit-is : (x : ℕ) (b : Bool) → x ≡ bitOf b → eqb x 1 ≡ b
+bit-is x true e = eq-eqb x 1 e
+bit-is x false e = ne-eqb x 1 (λ q. omega (arith, e, q))
 
 word-below : (l : List Bool) → wordOfBits l < 2 ^ length l
 unfolding wordOfBits

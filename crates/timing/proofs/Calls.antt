@@ -1,7 +1,7 @@
 -- A write to Commands and an event, lent the right length, by their parts: Group End, Start, resumes, Tag. Assumes nothing.
-use Prim.Native.Nat.{ℕ, _*_}
+use Prim.Native.Nat.{ℕ, _*_, _≤_}
 use mathlib.Core.Path.{_≡_, refl, sym, ap, _∙_}
-use mathlib.Core.Bool.{Bool, true, false, cond}
+use mathlib.Core.Bool.{Bool, true, false, cond, _&&_, _||_}
 use native.Mathlib.Omega.{arith}
 use borrow.Author.Tests.{eq-eqb}
 use Rattle.register_map.specs.AccessRule.{channelAccess}
@@ -43,13 +43,29 @@ resume-nothing true c k delay h = ap (withSequencer c) (resume-ignored (c .seque
 resume-nothing false c k delay h = refl
 
 pub resumes-nothing : (r : Registers) (c : Channel) (user code : ℕ)
-    → ((k : ℕ) → c .sequencer .stage ≡ stage.Paused k → triggersOf r k code ≡ false) → resumedOn r c user code ≡ c
+    → ((k : ℕ) → 1 ≤ k → k ≤ 4 → c .sequencer .stage ≡ stage.Paused k → triggersOf r k code ≡ false) → resumedOn r c user code ≡ c
 unfolding resumedOn
 resumes-nothing r c user code h =
-    rw (resume-nothing (triggersOf r 1 code) c 1 (delayOf r 1 user) (h 1))
-    (rw (resume-nothing (triggersOf r 2 code) c 2 (delayOf r 2 user) (h 2))
-    (rw (resume-nothing (triggersOf r 3 code) c 3 (delayOf r 3 user) (h 3))
-    (resume-nothing (triggersOf r 4 code) c 4 (delayOf r 4 user) (h 4))))
+    rw (resume-nothing (triggersOf r 1 code) c 1 (delayOf r 1 user) (h 1 (omega arith) (omega arith)))
+    (rw (resume-nothing (triggersOf r 2 code) c 2 (delayOf r 2 user) (h 2 (omega arith) (omega arith)))
+    (rw (resume-nothing (triggersOf r 3 code) c 3 (delayOf r 3 user) (h 3 (omega arith) (omega arith)))
+    (resume-nothing (triggersOf r 4 code) c 4 (delayOf r 4 user) (h 4 (omega arith) (omega arith)))))
+
+-- ---- Tag
+
+-- a tag, where it is asked for: the tag alone changes, by whether the channel is armed
+abbrev pub tagIf : Bool → Sequencer → Sequencer
+tagIf on s = seq.withTag s ((on && s .armed) || s .tag)
+
+pub tagged-channel : (on : Bool) (c : Channel) → taggedIf on c ≡ withSequencer c (tagIf on (c .sequencer))
+unfolding taggedIf seq.tagged
+tagged-channel true c = go (c .sequencer .armed)
+  where
+    go : (b : Bool)
+        → withSequencer c (cond b (seq.withTag (c .sequencer) true) (c .sequencer)) ≡ withSequencer c (seq.withTag (c .sequencer) (b || c .sequencer .tag))
+    go true = refl
+    go false = refl
+tagged-channel false c = refl
 
 -- ---- Start
 
@@ -71,45 +87,26 @@ not-starting : (c : Channel) (delay : ℕ) → c .sequencer .armed ≡ true
     → (on : Bool) (k : ℕ) → started c delay .sequencer .stage ≡ stage.Paused k → on ≡ false
 not-starting c delay h on k e = absurd (let s = started-stage c delay h in let z : _≡_ {A = ℕ} 0 1 = cc in omega arith)
 
--- a tag, where it is asked for, of the sequencer by itself
-abbrev pub tagIf : Bool → Sequencer → Sequencer
-tagIf on s = cond on (seq.tagged s) s
-
-tagged-sequencer : (on : Bool) (c : Channel) → taggedIf on c .sequencer ≡ tagIf on (c .sequencer)
-unfolding taggedIf
-tagged-sequencer true c = refl
-tagged-sequencer false c = refl
-
--- Start leaves the tag: so before it or after it is the same
-tagged-started : (on : Bool) (s : Sequencer) (delay : ℕ) → tagIf on (seq.started s delay) ≡ seq.started (tagIf on s) delay
-unfolding seq.tagged seq.started
-tagged-started true s delay = go (s .armed)
-  where
-    go : (b : Bool) → cond b (seq.withTag (seq.started s delay) true) (seq.started s delay) ≡ seq.started (cond b (seq.withTag s true) s) delay
-    go true = refl
-    go false = refl
-tagged-started false s delay = refl
-
--- a command with D0, or an event that starts, of an armed channel: resumes find no pause, and the sequencer is started
+-- a command with D0, or an event that starts, of an armed channel: resumes find no pause, and the sequencer is started; Start leaves the tag, so a tag
+-- after it is one before it
 pub command-starts : (c : Channel) (value : ℕ) → c .sequencer .armed ≡ true → bitAt value 0 ≡ true
     → commanded c value .sequencer ≡ seq.started (tagIf (bitAt value 3) (endedIf (bitAt value 2) c .sequencer)) 0
-unfolding commanded startedIf
+unfolding commanded startedIf seq.started
 command-starts c value armed on =
     let e = endedIf (bitAt value 2) c in
     let a : e .sequencer .armed ≡ true = ended-armed (bitAt value 2) c ∙ armed in
     rw on
-    (tagged-sequencer (bitAt value 3) _
+    (ap (λ (x : Channel). x .sequencer) (tagged-channel (bitAt value 3) _)
     ∙ ap (λ (x : Channel). tagIf (bitAt value 3) (x .sequencer))
     (resume-nothing (bitAt value 1) (started e 0) 0 0 (not-starting e 0 a (bitAt value 1) 0))
-    ∙ ap (tagIf (bitAt value 3)) (started-sequencer e 0 a)
-    ∙ tagged-started (bitAt value 3) (e .sequencer) 0)
+    ∙ ap (tagIf (bitAt value 3)) (started-sequencer e 0 a))
 
 pub event-starts : (c : Channel) (user code : ℕ) → c .sequencer .armed ≡ true
     → triggersOf (c .registers) startEvent code ≡ true
     → eventOf c user code .sequencer
     ≡ seq.started (tagIf (triggersOf (c .registers) tagEvent code) (endedIf (triggersOf (c .registers) groupEndEvent code) c .sequencer))
     (delayOf (c .registers) 0 user)
-unfolding eventOf startedIf
+unfolding eventOf startedIf seq.started
 event-starts c user code armed on =
     let r = c .registers in
     let e = endedIf (triggersOf r groupEndEvent code) c in
@@ -117,11 +114,10 @@ event-starts c user code armed on =
     let a : e .sequencer .armed ≡ true = ended-armed (triggersOf r groupEndEvent code) c ∙ armed in
     let t = triggersOf r tagEvent code in
     rw on
-    (tagged-sequencer t _
+    (ap (λ (x : Channel). x .sequencer) (tagged-channel t _)
     ∙ ap (λ (x : Channel). tagIf t (x .sequencer))
-    (resumes-nothing r (started e d) user code (λ k. not-starting e d a (triggersOf r k code) k))
-    ∙ ap (tagIf t) (started-sequencer e d a)
-    ∙ tagged-started t (e .sequencer) d)
+    (resumes-nothing r (started e d) user code (λ k some few. not-starting e d a (triggersOf r k code) k))
+    ∙ ap (tagIf t) (started-sequencer e d a))
 
 -- with no Group End the registers stay
 pub command-registers : (c : Channel) (value : ℕ) → bitAt value 2 ≡ false → commanded c value .registers ≡ c .registers

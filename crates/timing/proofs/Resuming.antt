@@ -12,7 +12,7 @@ use Rattle.sequencer.specs.declared.Stage.{Stage}
 use Rattle.sequencer.specs.declared.Stage.the-variants as stage
 use Rattle.sequencer.specs.declared.Sequencer.{Sequencer}
 use Rattle.sequencer.specs.declared.Ticked.{Ticked}
-use Rattle.sequencer.specs.Playing.{resumed, tagged, loadedResume, withResume, withTag, quiet, repeating, resuming, sentNext, ticked, tickedAt}
+use Rattle.sequencer.specs.Playing.{resumed, loadedResume, withResume, withTag, quiet, repeating, resuming, sentNext, ticked, tickedAt}
 use Rattle.sequencer.specs.Runs.{next, ticks}
 use Rattle.sequencer.proofs.Steps.{repeating-same}
 use Rattle.sequencer.proofs.Laws as laws
@@ -25,10 +25,10 @@ use Rattle.timing.specs.Ticking.{wordAt, period, answerOn, Resumes}
 use Rattle.timing.specs.Timing.{command, eventCall, triggeredBy, delay, NeitherEndsNorStarts, NeitherD2NorD0}
 use Rattle.timing.specs.Timing as the
 use Rattle.timing.proofs.Bridge.{after-with, on-tick, sent-after, repeat}
-use Rattle.timing.proofs.Calls.{command-transition, event-transition, resume-nothing, resumes-nothing}
+use Rattle.timing.proofs.Calls.{command-transition, event-transition, resume-nothing, resumes-nothing, tagIf, tagged-channel}
 use Rattle.timing.proofs.Series.{period-some}
 
--- ---- An event or command that resumes alone
+-- ---- An event or command that neither ends nor starts
 
 event-resumes : (o : OneChannel) (code : ℕ) → NeitherEndsNorStarts o code
     → transition o (eventCall o code)
@@ -62,18 +62,20 @@ command-ignored o value only h =
 
 pub other-pause : the.OtherPause
 other-pause o code j only at off =
-    event-ignored o code only (λ k e. ap (λ (x : ℕ). triggeredBy o x code) (let same : k ≡ j = cc in same) ∙ off)
+    event-ignored o code only
+    (λ k some few e.
+    let same : k ≡ j = cc in
+    ap (λ (x : ℕ). triggeredBy o x code) same ∙ off (omega arith) (omega arith))
 
--- register 0 is Start's
 pub vme-pause : the.VmePause
-vme-pause o code only at = other-pause o code 0 only at (only .1)
+vme-pause o code only at = other-pause o code 0 only at (λ some few. absurd (omega arith))
 
 pub not-by-d1 : the.NotByD1
 not-by-d1 o value j only at some = command-ignored o value only (λ e. apart j 0 at e (omega arith))
 
 pub meanwhile : the.Meanwhile
 meanwhile o at =
-    (λ code only. event-ignored o code only (λ k e. not-resuming k at e), λ value only. command-ignored o value only (λ e. not-resuming 0 at e))
+    (λ code only. event-ignored o code only (λ k some few e. not-resuming k at e), λ value only. command-ignored o value only (λ e. not-resuming 0 at e))
 
 -- ---- The resume that is taken
 
@@ -171,39 +173,27 @@ resumes o k d tag at some =
 
 -- a tag after the resume is the resume of a channel with that tag
 tagged-loaded : (on : Bool) (c : Channel) (k d : ℕ) → c .sequencer .stage ≡ stage.Paused k
-    → (tag : Bool) × (taggedIf on (loaded c k d) ≡ withSequencer c (resumed (withTag (c .sequencer) tag) k d))
-unfolding taggedIf tagged
-tagged-loaded true c k d at =
-    let s = c .sequencer in
-    let e = resume-taken s k d at in
-    let x = go (s .armed) in
-    (x .0, ap (withSequencer c) (rw e (x .1) ∙ sym (resume-taken (withTag s (x .0)) k d at)))
-  where
-    go : (b : Bool)
-        → (tag : Bool)
-        × (cond b (withTag (loadedResume (c .sequencer) d) true) (loadedResume (c .sequencer) d) ≡ loadedResume (withTag (c .sequencer) tag) d)
-    go true = (true, refl)
-    go false = (c .sequencer .tag, refl)
-tagged-loaded false c k d at = (c .sequencer .tag, refl)
+    → taggedIf on (loaded c k d) ≡ withSequencer c (resumed (tagIf on (c .sequencer)) k d)
+tagged-loaded on c k d at =
+    tagged-channel on (loaded c k d)
+    ∙ ap (withSequencer c) (ap (tagIf on) (resume-taken (c .sequencer) k d at) ∙ sym (resume-taken (tagIf on (c .sequencer)) k d at))
 
 pub resume-by-event : the.ResumeByEvent
 resume-by-event o code k only low high on at some =
     let r = o .channel .registers in
     let t = triggeredBy o tagEvent code in
-    let x = tagged-loaded t (o .channel) k (delay o k) at in
     subst (λ (p : OneChannel). Resumes o p (delay o k))
     (sym
     (event-resumes o code only
     ∙ ap (λ (c : Channel). withChannel o (taggedIf t c)) (taken r (o .channel) (o .user) code k low high on at)
-    ∙ ap (withChannel o) (x .1)))
-    (resumes o k (delay o k) (x .0) at some)
+    ∙ ap (withChannel o) (tagged-loaded t (o .channel) k (delay o k) at)))
+    (resumes o k (delay o k) _ at some)
 
 pub resume-by-command : the.ResumeByCommand
 resume-by-command o value only on at some =
-    let x = tagged-loaded (bitAt value 3) (o .channel) 0 0 at in
     subst (λ (p : OneChannel). Resumes o p 0)
     (sym
     (command-resumes o value only
     ∙ ap (λ (c : Channel). withChannel o (taggedIf (bitAt value 3) c)) (command-taken (o .channel) (bitAt value 1) on)
-    ∙ ap (withChannel o) (x .1)))
-    (resumes o 0 0 (x .0) at some)
+    ∙ ap (withChannel o) (tagged-loaded (bitAt value 3) (o .channel) 0 0 at)))
+    (resumes o 0 0 _ at some)

@@ -10,6 +10,7 @@ use Rattle.sequencer.specs.declared.Kind.the-variants as kind
 use Rattle.sequencer.specs.declared.Stage.the-variants as stage
 use Rattle.sequencer.specs.Playing.{isIdle, isStarting}
 use Rattle.sequencer.specs.Runs.{kindAt, advances, holds}
+use Rattle.sequencer.specs.Runs as seq
 use Rattle.channel_core.specs.Answers as ans
 use Rattle.channel_core.specs.State.{withStatus, withSequencer, withCommands}
 use Rattle.channel_core.specs.Behaviour as core
@@ -35,6 +36,10 @@ delay o bank = delayOf (o .channel .registers) bank (o .user)
 -- with a tag, where the event or command asks for one and the channel is armed, and otherwise as it was
 abbrev pub taggedIf : Bool → OneChannel → OneChannel
 taggedIf on o = withChannel o (core.taggedIf on (o .channel))
+
+-- the same but for tags: none waits, and the last send used none
+abbrev pub untagged : OneChannel → OneChannel
+untagged o = withChannel o (withSequencer (o .channel) (seq.untagged (o .channel .sequencer)))
 
 -- ---- A. Ticks
 
@@ -131,11 +136,11 @@ ResumeByCommand =
     → o .channel .sequencer .stage ≡ stage.Paused 0 → 1 ≤ o .channel .sequencer .left
     → Resumes o (transition o (command o value)) 0
 
--- in any stage: an event that is no resume of the pause that the channel is in, if it is in one, changes nothing but the tag
+-- in any stage: an event that is no resume of the pause that the channel is in, if it is in one of pauses 1 to 4, changes nothing but the tag
 abbrev pub EventIgnored : Type 0
 EventIgnored =
     (o : OneChannel) (code : ℕ) → NeitherEndsNorStarts o code
-    → ((k : ℕ) → o .channel .sequencer .stage ≡ stage.Paused k → triggeredBy o k code ≡ false)
+    → ((k : ℕ) → 1 ≤ k → k ≤ 4 → o .channel .sequencer .stage ≡ stage.Paused k → triggeredBy o k code ≡ false)
     → transition o (eventCall o code) ≡ taggedIf (triggeredBy o tagEvent code) o
 
 -- and so a command that is no resume of the VME pause, if the channel is in it
@@ -144,14 +149,17 @@ CommandIgnored =
     (o : OneChannel) (value : ℕ) → NeitherD2NorD0 value → (o .channel .sequencer .stage ≡ stage.Paused 0 → bitAt value 1 ≡ false)
     → transition o (command o value) ≡ taggedIf (bitAt value 3) o
 
--- a tag moves no frame: every tick answers as it would without it
+-- a tag moves no frame and changes nothing else: every tick answers as it would without it, and leaves the channel so, but for the tag and the mark
 abbrev pub TagLeavesTicks : Type 0
-TagLeavesTicks = (o : OneChannel) (on : Bool) (j : ℕ) → 1 ≤ j → onTick (taggedIf on o) j ≡ onTick o j
+TagLeavesTicks =
+    (o : OneChannel) (on : Bool) (j : ℕ)
+    → (onTick (taggedIf on o) j ≡ onTick o j) × (untagged (after (taggedIf on o) j) ≡ untagged (after o j))
 
 -- an event changes nothing but the tag in a pause whose own Resume register has another code (so Resume k never ends pause j), nor in the VME pause
 abbrev pub OtherPause : Type 0
 OtherPause =
-    (o : OneChannel) (code j : ℕ) → NeitherEndsNorStarts o code → o .channel .sequencer .stage ≡ stage.Paused j → triggeredBy o j code ≡ false
+    (o : OneChannel) (code j : ℕ) → NeitherEndsNorStarts o code → o .channel .sequencer .stage ≡ stage.Paused j
+    → (1 ≤ j → j ≤ 4 → triggeredBy o j code ≡ false)
     → transition o (eventCall o code) ≡ taggedIf (triggeredBy o tagEvent code) o
 
 abbrev pub VmePause : Type 0
