@@ -55,6 +55,7 @@ pub fn ticks(board: &mut Board, setpoints: &[u32], count: u32) -> Answer {
     let mut sent = Vec::new();
     board.tally_ticks(setpoints, count);
     board.watch_record();
+    board.watch_tag_record();
     for t in 1..=count {
         match board.tick(setpoints) {
             Ok(frames) => sent.extend((1..=4).filter_map(|c| frames[c - 1].map(|frame| (t, c, frame)))),

@@ -153,7 +153,11 @@ impl Board {
                 self.tally_crc(c, offset, latched);
                 Ok(latched)
             }
-            Place::Channel(c, 0x0C) => Ok(self.read_missing(c)),
+            Place::Channel(c, 0x0C) => {
+                let count = self.read_missing(c);
+                self.tally_tag_shortfall(c, count);
+                Ok(count)
+            }
             Place::Channel(c, offset) => {
                 self.tally_command_read(c, offset as usize / 2);
                 self.tally_tag_register(c, offset as usize / 2);

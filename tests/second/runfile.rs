@@ -134,6 +134,7 @@ pub fn tell(file: &[u8]) -> Told {
         counts.count(&a);
         answers.push(a);
     }
+    bench.board.tally_tag_end(&bench.readbacks);
     trace.push_str("end");
     for (i, w) in bench.readbacks.iter().enumerate().filter(|(_, w)| **w != 0) {
         write!(trace, " {i}={w:08X}").unwrap();

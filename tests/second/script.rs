@@ -99,6 +99,7 @@ impl Bench {
         if said.is_ok() {
             opened.tally.add(Did::opened_again);
             opened.watch_opening(&self.board);
+            opened.watch_tag_opening(&self.board);
         }
         opened.tally.join(&self.board.tally);
         self.board = opened;
@@ -114,9 +115,10 @@ impl Bench {
             return answer(told, |(_, length)| Answer::Length(length));
         }
         // "gives the empty part when refused"
-        Answer::Part(told.map_or(Vec::new(), |(is_second, length)| {
-            (if is_second { second } else { first })[..length].to_vec()
-        }))
+        let Ok((is_second, length)) = told else { return Answer::Part(Vec::new()) };
+        let part = &(if is_second { second } else { first })[..length];
+        self.board.tally_tag_part(c, part);
+        Answer::Part(part.to_vec())
     }
 
     fn poke(&mut self, is_readback: bool, at: usize, word: u32) -> Answer {
@@ -198,6 +200,7 @@ pub fn tell(script: &[u8]) -> Told {
         writeln!(text, "{} {a}", k + 1).unwrap();
         answers.push(a);
     }
+    bench.board.tally_tag_end(&bench.readbacks);
     let level = bench.board.interrupt_level();
     write!(text, "end {:016X} level {level} retired", bench.digest()).unwrap();
     for c in 0..4 {

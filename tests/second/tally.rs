@@ -101,8 +101,9 @@ tallies! {
     tag_command_disarmed tag_command_refused tag_command_of_other_channel
     tag_kept_over_user_change tag_kept_over_same_user tag_kept_over_arm tag_kept_over_restart tag_kept_over_resume
     tag_kept_over_reset_without_d0 tag_kept_over_register_write tag_kept_over_drop_on_other_channel
+    tag_kept_over_refused_drop_by_event tag_kept_over_refused_drop_by_command tag_kept_over_refused_drop_by_reset
     tag_kept_over_command_by_d0 tag_kept_over_command_by_d1 tag_kept_over_command_reply tag_of_group_end_kept_over_command
-    tag_kept_through_many_ticks
+    tag_kept_over_reply tag_kept_through_many_ticks
     tag_dropped_by_group_end_event tag_dropped_by_group_end_command tag_dropped_by_group_end_with_start
     tag_dropped_by_group_end_while_idle tag_dropped_by_disarm tag_dropped_by_disarm_while_idle
     tag_dropped_by_reset tag_dropped_by_reset_while_idle tag_dropped_by_opening
@@ -113,7 +114,8 @@ tallies! {
     tag_ended_by_repeat_in_resume_delay tag_ended_by_repeat_of_last
     tag_used_and_ended_in_one_record tag_used_early_in_long_record tag_send_with_shortfall
     tag_reply_kept tag_reply_sixth tag_reply_unasked tag_reply_crc_wrong tag_reply_lost tag_reply_crc_wrong_lost
-    tag_reply_in_new_start_delay tag_reply_after_more_ticks tag_reply_after_next_tag tag_after_send_before_reply
+    tag_reply_in_new_start_delay tag_reply_after_resume tag_reply_after_more_ticks tag_reply_after_next_tag
+    tag_after_send_before_reply
     tag_with_no_flag tag_with_d31 tag_with_d30 tag_with_d29 tag_with_d31_and_d30 tag_with_d31_and_d29 tag_of_other_user
     tag_in_part tag_word_like_end_word tag_word_like_end_word_in_part tag_words_like_end_word_in_part
     tag_word_like_end_word_begins_part tag_word_like_end_word_ends_part

@@ -5,7 +5,7 @@ use crate::channel::{Function, Hold, Sent, Window, ENABLE, ID, MISSING, MR, REPL
 use crate::tally::Did;
 
 /// "The count stays at 255."
-const MOST: u16 = 255;
+pub(super) const MOST: u16 = 255;
 
 /// What is short of six after a send: "If that one carried Frame ID 15h and got fewer than six replies".
 fn shortfall(sent: Sent) -> u16 {
@@ -199,7 +199,6 @@ impl Board {
     /// Before a record of ticks.
     pub fn watch_record(&mut self) {
         self.watch.iter_mut().for_each(|w| w.record = Record::default());
-        self.watch_tag_record();
     }
 
     /// Before a channel is idled.
@@ -225,7 +224,6 @@ impl Board {
         for c in 0..4 {
             self.watch_cleared(c, before.ch[c].w[MISSING], Did::missing_cleared_by_opening);
         }
-        self.watch_tag_opening(before);
     }
 
     fn watch_cleared(&mut self, c: usize, count: u16, by: Did) {

@@ -85,7 +85,7 @@ impl Board {
         }
         self.tally_stored(c, readbacks[place]);
         readbacks[place] = stored_word(sent, reply, wrong);
-        self.tally_tag_stored(c, sent, readbacks[place]);
+        self.watch_tag_stored(c, sent, place, readbacks[place]);
         self.ch[c].stored[active] += 1;
         self.tally.add(Did::kept);
         for (bit, did) in [(31, Did::kept_first), (30, Did::kept_paused), (29, Did::kept_last)] {
@@ -108,7 +108,6 @@ impl Board {
         let length = self.retired_count(c);
         let part = &(if is_second { second } else { first })[..length];
         self.tally_part(c, part);
-        self.tally_tag_part(c, part);
         Ok((is_second, length))
     }
 

@@ -1,10 +1,12 @@
 //! Tagged readbacks: document 02, request 6, whose quotations these are.
 
 mod reached;
+mod sends;
 mod shown;
+mod words;
 
 pub use self::reached::{Dropped, Tags};
-use self::reached::Sending;
+use self::sends::Sending;
 use super::life::Asked;
 use super::Board;
 

@@ -81,7 +81,8 @@ fn run_file(d: &Dice, i: u32) -> Vec<u8> {
         3 => offsets(&mut world, d, BASE * (1 + i / 40 % 4)),
         4 => offsets(&mut world, d, 0),
         5 => story(&mut world, d, 1_500),
-        8..=10 => story_of_tags(&mut world, d, 12),
+        // few acts, as only the words that stand at the end show
+        8..=15 => story_of_tags(&mut world, d, 12),
         _ => {
             let acts = d.of(&[20, 40, 80, 150]);
             story(&mut world, d, acts);
@@ -120,7 +121,7 @@ fn script_file(d: &Dice, i: u32) -> Vec<u8> {
         let (n, m) = (d.of(DEPTHS_N), d.of(DEPTHS_M));
         world.put(Op::Open { n, m, setpoints: 64 * n, readbacks: 8 * m }, d);
     }
-    if i % 20 == 5 {
+    if i % 20 == 5 || i % 20 == 12 {
         story_of_tags(&mut world, d, 40);
     } else {
         let acts = d.of(&[20, 60, 120, 250]);

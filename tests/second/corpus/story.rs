@@ -54,7 +54,8 @@ impl Taste {
         }
     }
 
-    /// Little but tags, with few words overwritten.
+    /// Little but tags, with no wrong call, no buffer filled and the shortest period, so that sends are near and most of
+    /// their replies are kept.
     fn of_tags(d: &Dice) -> Taste {
         Taste { quirks: 0, fills: false, tags: 85, clocks: &[3], ..Taste::new(d) }
     }

@@ -95,12 +95,13 @@ fn refusals(runs: &Reach, calls: &Reach) -> Vec<String> {
 
 /// What no run file does: its one board is opened once, of depth M 64, no call of it is lent a wrong length, and none
 /// shows a retired part.
-const OF_SCRIPTS: [&str; 19] = [
+const OF_SCRIPTS: [&str; 22] = [
     "missing_cleared_by_opening", "end_word_of_closed_board",
     "end_word_of_depth_1_reply_lost", "end_word_of_depth_1_sixth_lost", "end_word_of_depth_1_after_lost",
     "end_word_of_depth_1_command_reply", "end_word_of_depth_1_part", "end_word_of_depth_2_in_last_place",
     "end_word_part_of_full_buffer", "end_word_part_empty_after_reset", "end_word_in_part",
     "tag_event_refused", "tag_command_refused", "tag_dropped_by_opening",
+    "tag_kept_over_refused_drop_by_event", "tag_kept_over_refused_drop_by_command", "tag_kept_over_refused_drop_by_reset",
     "tag_in_part", "tag_word_like_end_word_in_part", "tag_words_like_end_word_in_part",
     "tag_word_like_end_word_begins_part", "tag_word_like_end_word_ends_part",
 ];

@@ -1,6 +1,9 @@
 //! Acts around tags (document 02, request 6): a tag in every state of a channel, what may come between it and the send
 //! that uses it, and replies to that send and to the one after it.
 
+mod between;
+
+use self::between::between;
 use super::acts::{event_for, retired, Scene};
 use super::commands::group_end;
 use super::missing::send;
@@ -34,11 +37,11 @@ pub fn tag(world: &mut World, s: &Scene) {
     }
 }
 
-/// A tag, now and then with what else one event or command does; or an event that is none, its register not active.
+/// A tag, now and then with what else one event or command does; or none, its register not active or the call refused.
 fn ask(world: &mut World, s: &Scene) {
     let d = s.d;
     let pause = s.now(world).pause;
-    let op = match d.weighed(&[40, 12, 6, 4, 45]) {
+    let op = match d.weighed(&[40, if pause > 0 { 30 } else { 12 }, 6, 4, 45]) {
         0 => event_for(world, s, 0x2C),
         1 => {
             let resume = 0x20 + 2 * pause.min(4);
@@ -57,7 +60,11 @@ fn ask(world: &mut World, s: &Scene) {
         _ if pause == 5 && d.chance(40) => Op::Write(s.at() + 8, 0x0A),
         _ => Op::Write(s.at() + 8, d.of(&[8, 8, 8, 8, 8, 9, 0x0A, 0x0C, 0x0C, 0x0D, 0x0F, 0xFFF8])),
     };
-    world.put(op, d);
+    if world.is_script() && d.chance(5) {
+        world.put_refused(op, d);
+    } else {
+        world.put(op, d);
+    }
 }
 
 /// The code in an event register, active or not.
@@ -69,7 +76,7 @@ fn same_code(world: &World, s: &Scene, offset: u32) -> u8 {
 fn before(world: &mut World, s: &Scene) {
     let d = s.d;
     let p = s.now(world);
-    match d.weighed(&[40, 10, 16, 12, if p.pause > 0 { 40 } else { 0 }, if p.pause > 0 { 0 } else { 12 }, 20]) {
+    match d.weighed(&[40, 10, 16, 18, if p.pause > 0 { 40 } else { 0 }, if p.pause > 0 { 0 } else { 20 }, 20]) {
         0 => {}
         1 => world.put(Op::Disarm(s.c), d),
         2 => {
@@ -88,7 +95,7 @@ fn before(world: &mut World, s: &Scene) {
         }
         4 => resume(world, s),
         5 => {
-            begin(world, s, s.user, &[1 << (16 + d.of(&[0, 1, 2, 3, 4, 4])), 1, 2]);
+            load(world, s, s.user, &[1 << (16 + d.of(&[0, 1, 2, 3, 4, 4, 4, 4])), 1, 2]);
             send(world, s);
         }
         _ => {
@@ -98,8 +105,8 @@ fn before(world: &mut World, s: &Scene) {
     }
 }
 
-/// A function of these words, each with data, begun in a group of its own.
-fn begin(world: &mut World, s: &Scene, user: u32, words: &[u32]) {
+/// A function of these words, each with data, on a channel that is then armed and idle.
+fn load(world: &mut World, s: &Scene, user: u32, words: &[u32]) {
     let d = s.d;
     let buffer = 1 + (s.now(world).active >> (user - 1) & 1) as u32;
     world.put(Op::User(user), d);
@@ -108,7 +115,6 @@ fn begin(world: &mut World, s: &Scene, user: u32, words: &[u32]) {
         world.put(Op::Set { c: s.c, user, buffer, index: index as u32, word: word | d.below(65_536) }, d);
     }
     world.put(Op::Arm(s.c), d);
-    world.put(Op::Write(s.at() + 8, 5), d);
 }
 
 /// Resume of the pause that the channel is in, often by a code that does nothing else, and some of the ticks after it.
@@ -147,89 +153,7 @@ fn replies(world: &mut World, s: &Scene, most: u32) {
     }
 }
 
-/// What may come between a tag and the next send.
-fn between(world: &mut World, s: &Scene) {
-    let d = s.d;
-    let pause = s.now(world).pause;
-    match d.weighed(&[24, 14, 14, 20, 10, 12, 16, if pause > 0 { 40 } else { 0 }]) {
-        0 => dropped(world, s, s.c),
-        1 => {
-            let other = 1 + (s.c + d.below(3)) % 4;
-            dropped(world, s, other);
-        }
-        2 => user_change(world, s),
-        3 => command(world, s),
-        4 => {
-            let op = if d.chance(30) { event_for(world, s, 0x20) } else { Op::Write(s.at() + 8, d.of(&[1, 1, 9])) };
-            world.put(op, d);
-            replies(world, s, 2);
-        }
-        5 => {
-            some_ticks(world, s);
-            replies(world, s, 1);
-        }
-        6 => register(world, s),
-        _ => resume(world, s),
-    }
-}
-
-/// What drops a tag of a channel.
-fn dropped(world: &mut World, s: &Scene, c: u32) {
-    let d = s.d;
-    // an idle channel seldom has a tag to drop
-    let is_idle = world.board().peek(c as usize - 1).idle;
-    match d.weighed(if is_idle { &[15, 15, 30, 40] } else { &[25, 25, 25, 25] }) {
-        0 if c == s.c => world.put(group_end(world, s), d),
-        0 | 1 => world.put(Op::Write(BASE * c + 8, d.of(&[4, 4, 5])), d),
-        2 => world.put(Op::Disarm(c), d),
-        _ => {
-            world.put(Op::Write(BASE * c + 6, 1), d);
-            if d.chance(30) {
-                world.put(Op::Read(BASE * c + 0x2C), d);
-            }
-            world.put(Op::Write(BASE * c + 0x0A, 3), d);
-        }
-    }
-}
-
-fn user_change(world: &mut World, s: &Scene) {
-    if s.d.chance(70) {
-        world.put(Op::User(s.user % s.t.users.max(2) + 1), s.d);
-    }
-    if s.d.chance(50) {
-        world.put(Op::User(s.user), s.d);
-    }
-}
-
-/// A command frame by D0 while the channel is idle, or by D1 after a Group End that a tag comes with; and replies to it.
-fn command(world: &mut World, s: &Scene) {
-    let d = s.d;
-    let p = s.now(world);
-    if p.armed && p.idle && d.chance(70) {
-        world.put(Op::Write(s.at() + 0xFC, 1), d);
-    } else {
-        world.put(Op::Write(s.at() + 0xFC, 2), d);
-        world.put(Op::Write(s.at() + 8, d.of(&[0x0C, 0x0C, 0x0D, 4])), d);
-    }
-    world.put(Op::Ticks(1), d);
-    replies(world, s, 3);
-    world.put(Op::Read(s.at() + 0xE4), d);
-}
-
-/// Register 2C, the tag again, and what changes nothing.
-fn register(world: &mut World, s: &Scene) {
-    let d = s.d;
-    let op = match d.below(5) {
-        0 => Op::Write(s.at() + 0x2C, d.of(&[0, 0x100, 0xFFFF, d.below(65_536) as u16])),
-        1 => Op::Read(s.at() + 0x2C),
-        2 => Op::Arm(s.c),
-        3 => Op::Write(s.at() + 6, d.of(&[0, 0xFFFE])),
-        _ => return ask(world, s),
-    };
-    world.put(op, d);
-}
-
-/// The next send, or several in one record of ticks, with replies after it and perhaps a tag before them.
+/// The next send, or several in one record of ticks, with replies after it and perhaps a tag or a Resume before them.
 fn used(world: &mut World, s: &Scene) -> bool {
     let d = s.d;
     let p = s.now(world);
@@ -244,7 +168,13 @@ fn used(world: &mut World, s: &Scene) -> bool {
     if d.chance(25) {
         ask(world, s);
     }
-    replies(world, s, d.of(&[1, 2, 2, 7]));
+    if s.now(world).pause > 0 && d.chance(30) {
+        resume(world, s);
+    }
+    if d.chance(70) {
+        world.put(Op::Reply(s.c, reply(d)), d);
+    }
+    replies(world, s, d.of(&[1, 1, 2, 6]));
     true
 }
 
@@ -266,7 +196,8 @@ fn ended(world: &mut World, s: &Scene) {
 /// replies of any kind or none, and before more of them or none. With N 3 the third is last.
 fn like_end_word(world: &mut World, s: &Scene) {
     let d = s.d;
-    begin(world, s, 1, &[0, 0, 0]);
+    load(world, s, 1, &[0, 0, 0]);
+    world.put(Op::Write(s.at() + 8, 5), d);
     for _ in 0..1 + d.below(2) {
         send(world, s);
         replies(world, s, d.below(2));

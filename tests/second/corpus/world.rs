@@ -134,6 +134,14 @@ impl World {
             Bench::Script(..) => self.bytes.len() / 16 - 1,
         }
     }
+    /// The call as a record that is lent too few words, and so is refused. No run file has one.
+    pub fn put_refused(&mut self, op: Op, dice: &Dice) {
+        if self.is_script() {
+            let mut record = as_script_record(op, dice, 0);
+            record[2] = dice.of(&[1, 2]);
+            self.put(Op::Raw(record), dice);
+        }
+    }
     /// The call as a record, unless the file is full.
     pub fn put(&mut self, op: Op, dice: &Dice) {
         let record = match self.bench {

@@ -1,7 +1,7 @@
-//! What the corpus shows of tags beside the words of replies: register 2C, events and refusals that tag no send, and
-//! retired parts.
+//! What the corpus reaches of registers and tags: what 2C and 0C show, and events and commands that set no tag here.
 
-use crate::board::end_word::END_WORD;
+use crate::board::life::Asked;
+use crate::board::missing::MOST;
 use crate::board::Board;
 use crate::channel::TAG;
 use crate::tally::Did;
@@ -12,10 +12,8 @@ pub struct Shown {
     has_high_bits: bool,
     /// A reset cleared 2C, which was not written since.
     is_register_reset: bool,
-    /// The readbacks of this group.
-    group: Vec<u32>,
-    /// Those of the retired one.
-    retired: Vec<u32>,
+    /// What tagged sends lacked is in the count of 0C.
+    pub(super) has_tagged_shortfall: bool,
 }
 
 impl Shown {
@@ -47,13 +45,21 @@ impl Board {
         ]);
     }
 
+    /// After a read of 0C.
+    pub(in crate::board) fn tally_tag_shortfall(&mut self, c: usize, count: u16) {
+        let is = std::mem::take(&mut self.tags[c].shown.has_tagged_shortfall);
+        // at its most it could be the same without them
+        self.tally_if(is && count < MOST, Did::tag_send_with_shortfall);
+    }
+
     /// After an event that was not refused.
     pub(in crate::board) fn watch_tag_event(&mut self, code: u8) {
         let active = 0x100 | code as u16;
         let is_tagged = self.ch.each_ref().map(|ch| ch.armed && ch.w[TAG] == active);
         let several = is_tagged.iter().filter(|is| **is).count() > 1;
         for c in 0..4 {
-            if is_tagged[c] && several {
+            // with a tag before it, this one shows nothing
+            if is_tagged[c] && several && self.tags[c].times == 1 {
                 self.watch_tag_kept(c, Did::tag_on_two_channels_at_once);
             }
             let is_of_other = is_tagged.contains(&true) && self.ch[c].w[TAG] != active;
@@ -73,7 +79,7 @@ impl Board {
     pub(in crate::board) fn tally_event_refused(&mut self, code: u8) {
         self.tally.add(Did::event_refused_1);
         for c in 0..4 {
-            self.watch_tag_absent(c, self.ch[c].w[TAG] == 0x100 | code as u16, Did::tag_event_refused);
+            self.watch_tag_refused(c, Asked::by_event(code, &self.ch[c]));
         }
     }
 
@@ -81,8 +87,25 @@ impl Board {
     pub(in crate::board) fn tally_write_refused(&mut self, address: u32, value: u16) {
         self.tally.add(Did::write_refused_1);
         let c = (address / 0x800) as usize;
-        if (1..=4).contains(&c) && address % 0x800 == 0x08 {
-            self.watch_tag_absent(c - 1, value & 8 != 0, Did::tag_command_refused);
+        match address % 0x800 {
+            _ if !(1..=4).contains(&c) => {}
+            0x06 if value & 1 == 1 => self.watch_tag_kept(c - 1, Did::tag_kept_over_refused_drop_by_reset),
+            0x08 => self.watch_tag_refused(c - 1, Asked::by_command(value)),
+            _ => {}
+        }
+    }
+
+    /// An event or command that is refused: it sets no tag, and drops none.
+    fn watch_tag_refused(&mut self, c: usize, asked: Asked) {
+        let [not_set, not_dropped] = if asked.by_command {
+            [Did::tag_command_refused, Did::tag_kept_over_refused_drop_by_command]
+        } else {
+            [Did::tag_event_refused, Did::tag_kept_over_refused_drop_by_event]
+        };
+        self.watch_tag_absent(c, asked.tag, not_set);
+        // a tag that it sets would stand for one that it drops
+        if asked.group_end && !asked.tag {
+            self.watch_tag_kept(c, not_dropped);
         }
     }
 
@@ -94,41 +117,15 @@ impl Board {
     }
 
     /// After an opening in the place of another board.
-    pub(in crate::board) fn watch_tag_opening(&mut self, before: &Board) {
+    pub fn watch_tag_opening(&mut self, before: &Board) {
         for c in (0..4).filter(|c| before.ch[*c].is_tag_pending) {
             self.tags[c].absent.push(Did::tag_dropped_by_opening);
         }
-    }
-
-    /// A readback that is stored as this word.
-    pub(super) fn watch_tag_stored(&mut self, c: usize, word: u32) {
-        self.tally_if(word == END_WORD, Did::tag_word_like_end_word);
-        self.tags[c].shown.group.push(word);
-    }
-
-    pub(super) fn watch_tag_group_end(&mut self, c: usize) {
-        let shown = &mut self.tags[c].shown;
-        shown.retired = std::mem::take(&mut shown.group);
     }
 
     /// Before a reset.
     pub(super) fn watch_tag_reset(&mut self, c: usize) {
         let is_register_reset = self.ch[c].w[TAG] != 0 || self.tags[c].shown.is_register_reset;
         self.tags[c].shown = Shown { is_register_reset, ..Shown::default() };
-    }
-
-    /// Before a part is answered; those are its words in the buffers that were lent.
-    pub(in crate::board) fn tally_tag_part(&mut self, c: usize, part: &[u32]) {
-        if part != self.tags[c].shown.retired {
-            return;
-        }
-        let like = part.iter().filter(|w| **w == END_WORD).count();
-        self.tally_rows(&[
-            (part.iter().any(|w| w >> 25 & 1 == 1), Did::tag_in_part),
-            (like > 0, Did::tag_word_like_end_word_in_part),
-            (like > 1, Did::tag_words_like_end_word_in_part),
-            (part.first() == Some(&END_WORD), Did::tag_word_like_end_word_begins_part),
-            (part.last() == Some(&END_WORD), Did::tag_word_like_end_word_ends_part),
-        ]);
     }
 }
