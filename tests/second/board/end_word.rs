@@ -114,13 +114,19 @@ impl Board {
     /// Before a Group End, in a buffer that may have an end word of an earlier one.
     fn tally_older(&mut self, c: usize, readbacks: &[u32]) {
         let place = self.next_place(c);
-        let after = &readbacks[place + 1..place + self.m as usize - self.stored(c)];
-        let is_last = after.last() == Some(&END_WORD);
-        self.tally_rows(&[
-            (readbacks[place] == END_WORD, Did::end_word_older_in_same_place),
-            (after.contains(&END_WORD), Did::end_word_older_stands_after),
-            (is_last, Did::end_word_older_stands_in_last_place),
-        ]);
+        let end = place + self.m as usize - self.stored(c);
+        let is_older = |at: usize| self.is_end_word(c, at, readbacks[at]);
+        let rows = [
+            (is_older(place), Did::end_word_older_in_same_place),
+            ((place + 1..end).any(is_older), Did::end_word_older_stands_after),
+            (place + 1 < end && is_older(end - 1), Did::end_word_older_stands_in_last_place),
+        ];
+        self.tally_rows(&rows);
+    }
+
+    /// This word is one of an earlier Group End, and no tagged readback that equals it.
+    fn is_end_word(&self, c: usize, place: usize, word: u32) -> bool {
+        word == END_WORD && !self.is_readback(c, place)
     }
 
     /// Before a Group End, with a reset since the one before.
@@ -134,15 +140,15 @@ impl Board {
     }
 
     /// Before a readback is stored in the place of a word.
-    pub(super) fn tally_stored(&mut self, c: usize, word: u32) {
-        let stored = self.stored(c);
+    pub(super) fn tally_stored(&mut self, c: usize, place: usize, word: u32) {
+        let (stored, is_older) = (self.stored(c), self.is_end_word(c, place, word));
         let Groups { before, is_reset, is_reset_full, .. } = self.groups[c];
         let is_after_full = !is_reset && before.is_some_and(|b| b.stored == self.capacity());
         self.tally_rows(&[
             (stored + 1 == self.capacity(), Did::end_word_reply_fills),
             (stored == 0 && is_after_full, Did::end_word_reply_kept_after_full),
             (stored == 0 && is_reset_full, Did::end_word_reply_kept_after_reset_of_full),
-            (word == END_WORD, Did::end_word_older_overwritten_by_readback),
+            (is_older, Did::end_word_older_overwritten_by_readback),
         ]);
         self.groups[c].last_reply = Some(Reply::Kept);
     }

@@ -83,7 +83,7 @@ impl Board {
             self.watch[c].lost += 1;
             return Reply::Lost;
         }
-        self.tally_stored(c, readbacks[place]);
+        self.tally_stored(c, place, readbacks[place]);
         readbacks[place] = stored_word(sent, reply, wrong);
         self.watch_tag_stored(c, sent, place, readbacks[place]);
         self.ch[c].stored[active] += 1;

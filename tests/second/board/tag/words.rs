@@ -72,6 +72,11 @@ impl Board {
         self.tally_if(is_tagged && matches!(why, Did::unasked_seventh), Did::tag_reply_unasked);
     }
 
+    /// A readback that this board kept stands there.
+    pub(in crate::board) fn is_readback(&self, c: usize, place: usize) -> bool {
+        self.tags[c].words.contains_key(&place)
+    }
+
     /// Before an end word, which may overwrite a readback.
     pub(super) fn watch_tag_end_word(&mut self, c: usize) {
         let place = self.next_place(c);
