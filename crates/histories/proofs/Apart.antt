@@ -18,8 +18,8 @@ use Rattle.sequencer.specs.declared.Sequencer.{Sequencer}
 use Rattle.sequencer.specs.declared.Transmission.{Transmission}
 use Rattle.sequencer.specs.declared.Transmission.the-variants as transmission
 use Rattle.sequencer.specs.Playing.{isIdle, nothingSent, advancing, ticked, tickedAt, loadedResume}
-use Rattle.sequencer.proofs.Moves.{resumed-either}
 use Rattle.sequencer.specs.Playing as seq
+use Rattle.sequencer.proofs.Moves.{resumed-either}
 use Rattle.readback.specs.declared.Disposition.{Disposition}
 use Rattle.readback.specs.declared.Disposition.the-variants as disposition
 use Rattle.command_frames.specs.declared.CommandFrames.{CommandFrames}

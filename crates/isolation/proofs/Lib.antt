@@ -14,5 +14,6 @@ pub mod Items
 pub mod Isolation
 pub mod Shown
 pub mod Defaults
+pub mod Alone
 pub mod EndWords
 pub mod Marks

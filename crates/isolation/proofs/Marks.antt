@@ -11,7 +11,7 @@ use Rattle.isolation.specs.Feeding.{fed}
 use Rattle.isolation.specs.Isolation.{oneChannelAt, MarksRetired}
 use Rattle.isolation.proofs.Parts.{Number}
 use Rattle.isolation.proofs.Isolation.{open-own}
-use Rattle.isolation.proofs.EndWords.{alone-after, query-alone}
+use Rattle.isolation.proofs.Alone.{alone-after, query-alone}
 
 pub marks-retired : MarksRetired
 marks-retired n m s r opens c low high xs a =

@@ -10,6 +10,7 @@ use Rattle.sequencer.specs.declared.Stage.the-variants as stage
 use Rattle.sequencer.specs.declared.Sequencer.{Sequencer}
 use Rattle.sequencer.specs.declared.Ticked.{Ticked}
 
+-- two ticks transmit the same, and leave the same but for tags
 pub record Alike (a b : Ticked) : Type 0 where
   pub transmission-same : a .transmission ≡ b .transmission
   pub rest-same : untagged (a .sequencer) ≡ untagged (b .sequencer)

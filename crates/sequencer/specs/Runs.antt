@@ -101,7 +101,7 @@ abbrev pub taggedAfter : Transmission → (tag tagged : Bool) → Bool
 taggedAfter transmission.Nothing tag tagged = tagged
 taggedAfter (transmission.Word word condition) tag tagged = tag
 
--- the same send, with no tag used; and the same state, with none waiting and none used
+-- the same send without "the mark"; and the same state without it and without "a tag not yet used"
 abbrev pub unmarked : LastSend → LastSend
 unmarked l = record { sent = l .sent; first = l .first; paused = l .paused; last = l .last; id = l .id; tagged = false; replies = l .replies }
 

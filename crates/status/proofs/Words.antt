@@ -22,6 +22,7 @@ pub bit-small : (b : Bool) → bitOf b ≤ 1
 bit-small true = omega arith
 bit-small false = omega arith
 
+-- a number that is a bit tells it where it is compared with 1, as `bitAt` does
 pub bit-is : (x : ℕ) (b : Bool) → x ≡ bitOf b → eqb x 1 ≡ b
 bit-is x true e = eq-eqb x 1 e
 bit-is x false e = ne-eqb x 1 (λ q. omega (arith, e, q))

@@ -37,7 +37,7 @@ delay o bank = delayOf (o .channel .registers) bank (o .user)
 abbrev pub taggedIf : Bool → OneChannel → OneChannel
 taggedIf on o = withChannel o (core.taggedIf on (o .channel))
 
--- the same but for tags: none waits, and the last send used none
+-- the same channel without "a tag not yet used" and without "the mark" of its last send (card 6)
 abbrev pub untagged : OneChannel → OneChannel
 untagged o = withChannel o (withSequencer (o .channel) (seq.untagged (o .channel .sequencer)))
 

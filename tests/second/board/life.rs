@@ -163,7 +163,7 @@ impl Board {
         }
     }
 
-    /// "One event or command does Group End, Start, Resume in that order."
+    /// "One event or command does Group End, Start, Resume in that order."; by request 6, "Tag acts last".
     pub(super) fn act(&mut self, c: usize, asked: Asked, readbacks: &mut [u32]) {
         if asked.group_end {
             self.tally.add(if asked.by_command { Did::group_end_by_command } else { Did::group_end_by_event });
