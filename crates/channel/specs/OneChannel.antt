@@ -19,6 +19,7 @@ use Rattle.channel_core.specs.Answers as ans
 use Rattle.channel_core.specs.State.{opened}
 use Rattle.channel_core.specs.Behaviour.{userChanged, eventOf, eventWords, tickOf, tickAnswer}
 use Rattle.channel_replies.specs.Replying.{replyAnswer, replyOf, replyWords}
+use Rattle.channel_readings.specs.Reading.{readingsAnswer}
 use Rattle.channel_registers.specs.Calls.{registerRefusal, registerEffect, registerWords, readEffect, readValue}
 use Rattle.channel.specs.Calls.{outside, setpointRefusal, setpointWords, armedOf, disarmedOf, retiredRefusal, mainBit, mainTaken}
 
@@ -28,6 +29,8 @@ pub data Query : Type 0 where
   -- retired readbacks, and what document 01 calls its twin
   retired : Query
   retiredLength : Query
+  -- document 02, card 7: the readings of its last setpoint send, lent nothing
+  readings : Query
 
 -- the calls that name the channel, then the shared ones. `lent`, `one`, `two` are the lengths of what the call is lent.
 pub data ChannelCall : Type 0 where
@@ -93,6 +96,7 @@ userRefusal user = cond (outside 1 8 user) (numberOf refusal.OutOfRange) 0
 abbrev pub queryRefusal : OneChannel → Query → (one two : ℕ) → ℕ
 queryRefusal o retired one two = retiredRefusal (o .m) one two
 queryRefusal o retiredLength one two = retiredRefusal (o .m) one two
+queryRefusal o readings one two = 0
 
 unfoldable pub refusalOf : OneChannel → ChannelCall → ℕ
 refusalOf o (writeRegister lent offset value) = then (lengthRefusal lent (o .m * 8)) (registerRefusal (o .channel) offset value)
@@ -158,6 +162,7 @@ mainAnswer c offset =
 abbrev pub queryAnswer : OneChannel → Query → Answer
 queryAnswer o retired = ans.part (retiredOf o)
 queryAnswer o retiredLength = ans.partLength (length (retiredOf o))
+queryAnswer o readings = readingsAnswer (o .channel)
 
 unfoldable pub answer : OneChannel → ChannelCall → Answer
 answer o (writeRegister lent offset value) = ans.done

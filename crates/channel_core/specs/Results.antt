@@ -1,6 +1,13 @@
 -- Document 01, 'Calls': the results that no definition by cases on an answer tells apart. Laws name them by equation.
 use Prim.Native.Nat.{ℕ}
 use mathlib.Core.Bool.{Bool}
+use lib.Ieee.{Float}
+
+-- document 02, card 7: "Each of the four readings is a voltage, or lost, or damaged by a wrong CRC."
+pub data Reading : Type 0 where
+  volts : Float → Reading
+  lost : Reading
+  damaged : Reading
 
 pub data Result : Type 0 where
   -- a write, arming, an event, a user change
@@ -13,3 +20,5 @@ pub data Result : Type 0 where
   unsolicited : Result
   -- the length of a part
   partLength : ℕ → Result
+  -- the four readings of a send, by its third to sixth replies
+  readings : (third fourth fifth sixth : Reading) → Result

@@ -1,5 +1,5 @@
 -- Document 01, 'A channel's life': what a reply does to a channel, over the channel's own 2 × M readback words, and what it is answered.
--- Document 02, card 1: replies to a command frame.
+-- Document 02, card 1: replies to a command frame. Card 7: what a reply is worth as an ADC word.
 use Prim.Native.Nat.{ℕ}
 use mathlib.Core.Bool.{Bool, cond, not}
 use mathlib.Core.List.{List}
@@ -7,6 +7,9 @@ use Rattle.frame.specs.Frames.{Reading, refused, fields, read, crcRight}
 use Rattle.status.specs.declared.Status.{Status}
 use Rattle.status.specs.Latching.{latched, crcError}
 use Rattle.registers.specs.Map.{secondActive, readbackPlace}
+use Rattle.adc_words.specs.declared.AdcWord.{AdcWord}
+use Rattle.adc_words.specs.declared.AdcWord.the-variants as adc
+use Rattle.adc_words.specs.Positions.{storedAs}
 use Rattle.sequencer.specs.Playing.{isIdle, answered}
 use Rattle.readback.specs.declared.Disposition.{Disposition}
 use Rattle.readback.specs.declared.Disposition.the-variants as disposition
@@ -31,15 +34,15 @@ receiptAnswer disposition.Unsolicited = ans.unsolicited
 receiptAnswer disposition.Lost = ans.lost
 receiptAnswer disposition.Kept = ans.kept
 
--- a reply that was due, kept or lost, "counts among the six", and its CRC is checked
-abbrev pub replyCounted : Channel → Bool → Channel
-replyCounted c right = withSequencer (withStatus c (crcStatus (c .status) right)) (answered (c .sequencer))
+-- a reply that was due, kept or lost, "counts among the six", and its CRC is checked; `adc` is what it is worth as an ADC word
+abbrev pub replyCounted : Channel → Bool → AdcWord → Channel
+replyCounted c right adc = withSequencer (withStatus c (crcStatus (c .status) right)) (answered (c .sequencer) adc)
 
--- the channel after it; an unasked one changes nothing
-abbrev pub receivedChannel : Disposition → Channel → ℕ → Bool → Channel
-receivedChannel disposition.Unsolicited c m right = c
-receivedChannel disposition.Lost c m right = replyCounted c right
-receivedChannel disposition.Kept c m right = withReadbacks (replyCounted c right) (keptIn (c .readbacks) m)
+-- the channel after it; an unasked one changes nothing. Card 7: "A reading is lost when its reply wasn't stored, with a wrong CRC or not."
+abbrev pub receivedChannel : Disposition → Channel → ℕ → Bool → ℕ → Channel
+receivedChannel disposition.Unsolicited c m right word = c
+receivedChannel disposition.Lost c m right word = replyCounted c right adc.Lost
+receivedChannel disposition.Kept c m right word = withReadbacks (replyCounted c right (storedAs right word)) (keptIn (c .readbacks) m)
 
 -- the readback words after it: only a kept reply is stored
 abbrev pub receivedWords : Disposition → Channel → List ℕ → ℕ → ℕ → List ℕ
@@ -60,7 +63,7 @@ abbrev pub replyAs : Reading → Channel → ℕ → Channel
 replyAs (refused k) c m = c
 replyAs (fields id word aux crc) c m =
     cond (takes (c .commands)) (commandReply c (crcRight id word aux crc) id word)
-    (receivedChannel (dispositionNow c m) c m (crcRight id word aux crc))
+    (receivedChannel (dispositionNow c m) c m (crcRight id word aux crc) word)
 
 abbrev pub replyWordsAs : Reading → Channel → List ℕ → ℕ → ℕ → List ℕ
 replyWordsAs (refused k) c s m user = s

@@ -1,4 +1,5 @@
 // A reply of one channel: what becomes of it, the word stored for it, and its answer, over the channel by value and its own part of the lent memory.
+use adc_words::AdcWord;
 use channel_core::Channel;
 use frame::Decoded;
 use readback::Disposition;
@@ -46,14 +47,14 @@ fn disposition(c: Channel, m: u32) -> Disposition
 }
 
 // A reply that was due, kept or lost, is one of the six; its CRC is checked.
-fn counted(c: Channel, right: bool) -> Channel
-    ensures { λ r. ⌜ r ≡ replyCounted c right ⌝ }
+fn counted(c: Channel, right: bool, word: AdcWord) -> Channel
+    ensures { λ r. ⌜ r ≡ replyCounted c right word ⌝ }
 {
     let status = c.status;
     let sequencer = c.sequencer;
     let mut next = c;
     next.status = crc_checked(status, right);
-    next.sequencer = sequencer.answered();
+    next.sequencer = sequencer.answered(word);
     next
 }
 
@@ -67,7 +68,7 @@ fn receive(
     data: u16,
     right: bool,
 ) -> Received
-    ensures { λ r. ⌜ (r .channel ≡ receivedChannel (dispositionNow c m) c m right) × (receiptOf (r .receipt) ≡ receiptAnswer (dispositionNow c m)) × (now (words .exit) ≡ receivedWords (dispositionNow c m) c (now (words .entry)) m (storedWord (c .sequencer .last) user (not right) id «data»)) ⌝ }
+    ensures { λ r. ⌜ (r .channel ≡ receivedChannel (dispositionNow c m) c m right «data») × (receiptOf (r .receipt) ≡ receiptAnswer (dispositionNow c m)) × (now (words .exit) ≡ receivedWords (dispositionNow c m) c (now (words .entry)) m (storedWord (c .sequencer .last) user (not right) id «data»)) ⌝ }
 {
     let disposition = disposition(c, m);
     match disposition {
@@ -76,7 +77,7 @@ fn receive(
             receipt: Receipt::Unsolicited,
         },
         Disposition::Lost => Received {
-            channel: counted(c, right),
+            channel: counted(c, right, AdcWord::Lost),
             receipt: Receipt::Lost,
         },
         Disposition::Kept => {
@@ -85,7 +86,7 @@ fn receive(
             let readbacks = c.readbacks;
             let last = sequencer.last;
             let word = readback::stored_word(last, user, !right, id, data);
-            let mut next = counted(c, right);
+            let mut next = counted(c, right, adc_words::stored(right, data));
             next.readbacks = readbacks.keep(words, registers.readback_second_active(), m, word);
             Received {
                 channel: next,

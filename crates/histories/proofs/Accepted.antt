@@ -17,6 +17,7 @@ use Rattle.channel_core.specs.declared.Channel.{Channel}
 use Rattle.channel_core.specs.Answers.{Answer, isRefusal, isFrame, isReceived}
 use Rattle.channel_core.specs.Answers as ans
 use Rattle.channel_core.specs.Behaviour.{tickLine, playedOf, tickAnswer}
+use Rattle.channel_readings.specs.Reading.{readingsAnswer}
 use Rattle.channel_replies.specs.Replying.{dispositionNow, receiptAnswer, replyAnswerAs, replyAnswer}
 use Rattle.channel.specs.OneChannel.{Query, ChannelCall, OneChannel, then, lengthRefusal, framingRefusal, refusalOf, queryAnswer, mainAnswer, answer}
 use Rattle.channel.specs.OneChannel as call
@@ -61,8 +62,10 @@ main-accepted c offset = either NoRefusal (eqb offset 0x28) refl (either NoRefus
 -- what answers a call that changes nothing is no refusal, no frame and no receipt
 pub query-plain : (o : OneChannel) (which : Query)
     → NoRefusal (queryAnswer o which) × (isFrame (queryAnswer o which) ≡ false) × (isReceived (queryAnswer o which) ≡ false)
+unfolding readingsAnswer
 query-plain o call.retired = (refl, refl, refl)
 query-plain o call.retiredLength = (refl, refl, refl)
+query-plain o call.readings = (refl, refl, refl)
 
 -- nor is what answers a reply a frame
 pub reply-plain : (c : Channel) (m f : ℕ) → isFrame (replyAnswer c m f) ≡ false

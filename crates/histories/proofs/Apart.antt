@@ -17,6 +17,9 @@ use Rattle.sequencer.specs.declared.Stage.the-variants as stage
 use Rattle.sequencer.specs.declared.Sequencer.{Sequencer}
 use Rattle.sequencer.specs.declared.Transmission.{Transmission}
 use Rattle.sequencer.specs.declared.Transmission.the-variants as transmission
+use Rattle.adc_words.specs.declared.AdcWord.{AdcWord}
+use Rattle.adc_words.specs.declared.AdcWord.the-variants as adc
+use Rattle.adc_words.specs.Positions.{storedAs}
 use Rattle.sequencer.specs.Playing.{isIdle, nothingSent, advancing, ticked, tickedAt, loadedResume}
 use Rattle.sequencer.specs.Playing as seq
 use Rattle.sequencer.proofs.Moves.{resumed-either}
@@ -111,9 +114,9 @@ module _ (f : CommandFrames) (s : Sequencer) (p : Apart f s) where
   apart-tagged =
       either (Apart f) (s .armed) (record { due = p .due; due-unsent = p .due-unsent; receiving-unsent = p .receiving-unsent }) p
 
-  apart-answered : Apart f (seq.answered s)
+  apart-answered : (word : AdcWord) → Apart f (seq.answered s word)
   unfolding seq.answered
-  apart-answered = record { due = p .due; due-unsent = p .due-unsent; receiving-unsent = p .receiving-unsent }
+  apart-answered word = record { due = p .due; due-unsent = p .due-unsent; receiving-unsent = p .receiving-unsent }
 
   -- in a pause nothing is due
   apart-loaded : (k delay : ℕ) → s .stage ≡ stage.Paused k → Apart f (loadedResume s delay)
@@ -247,10 +250,10 @@ module _ (c : Channel) (p : ApartIn c) where
   apart-tick s n user =
       apart-ticked (c .commands) (c .sequencer) p (dueOf c s n user) n (periodOf (c .registers .clock)) (c .registers .id) (playedOf c s n user .transmission) refl
 
-  disposition-apart : (d : Disposition) (m : ℕ) (right : Bool) → ApartIn (receivedChannel d c m right)
-  disposition-apart disposition.Unsolicited m right = p
-  disposition-apart disposition.Lost m right = apart-answered (c .commands) (c .sequencer) p
-  disposition-apart disposition.Kept m right = apart-answered (c .commands) (c .sequencer) p
+  disposition-apart : (d : Disposition) (m : ℕ) (right : Bool) (word : ℕ) → ApartIn (receivedChannel d c m right word)
+  disposition-apart disposition.Unsolicited m right word = p
+  disposition-apart disposition.Lost m right word = apart-answered (c .commands) (c .sequencer) p adc.Lost
+  disposition-apart disposition.Kept m right word = apart-answered (c .commands) (c .sequencer) p (storedAs right word)
 
   pub apart-reply : (m f : ℕ) → ApartIn (replyOf c m f)
   unfolding replyOf
@@ -260,7 +263,7 @@ module _ (c : Channel) (p : ApartIn c) where
       go (frame.refused k) = p
       go (frame.fields id word aux crc) =
           either ApartIn (takes (c .commands)) (apart-received (c .commands) (c .sequencer) p (not (crcRight id word aux crc)) id word)
-          (disposition-apart (dispositionNow c m) m (crcRight id word aux crc))
+          (disposition-apart (dispositionNow c m) m (crcRight id word aux crc) word)
 
   reset-apart : ApartIn (reset c)
   unfolding reset

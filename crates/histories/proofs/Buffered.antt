@@ -147,19 +147,19 @@ register-buffered o offset value =
 abbrev kept : Answer → Bool → List ℕ → List ℕ
 kept a taken words = cond (isKept a && not taken) words []
 
-received : (o : OneChannel) (word : ℕ) (right : Bool)
+received : (o : OneChannel) (word : ℕ) (right : Bool) (bits : ℕ)
     → Buffered o
-    (withReadbacks (withChannel o (receivedChannel (dispositionNow (o .channel) (o .m)) (o .channel) (o .m) right))
+    (withReadbacks (withChannel o (receivedChannel (dispositionNow (o .channel) (o .m)) (o .channel) (o .m) right bits))
     (receivedWords (dispositionNow (o .channel) (o .m)) (o .channel) (o .readbacks) (o .m) word))
     false false (kept (receiptAnswer (dispositionNow (o .channel) (o .m))) false (word ∷ []))
 unfolding dispositionNow dispositionOf
-received o word right =
+received o word right bits =
     go (isDue (isIdle (o .channel .sequencer .stage)) (o .channel .sequencer .last)) (ltb (o .channel .readbacks .stored) (capacity (o .m))) refl
   where
     go : (due space : Bool) → ltb (o .channel .readbacks .stored) (capacity (o .m)) ≡ space
         → let d : Disposition = cond due (cond space disposition.Kept disposition.Lost) disposition.Unsolicited in
         Buffered o
-        (withReadbacks (withChannel o (receivedChannel d (o .channel) (o .m) right)) (receivedWords d (o .channel) (o .readbacks) (o .m) word))
+        (withReadbacks (withChannel o (receivedChannel d (o .channel) (o .m) right bits)) (receivedWords d (o .channel) (o .readbacks) (o .m) word))
         false false (kept (receiptAnswer d) false (word ∷ []))
     go true true e = record { active = λ r. refl; counts = rw e; written = rw e; few = omega arith; once = λ e. refl }
     go true false e = unwritten o _ false true refl refl refl
@@ -177,11 +177,11 @@ reply-buffered o f = go (read f)
         Buffered o
         (withReadbacks
         (withChannel o
-        (cond b (commandReply (o .channel) (crcRight id word aux crc) id word) (receivedChannel d (o .channel) (o .m) (crcRight id word aux crc))))
+        (cond b (commandReply (o .channel) (crcRight id word aux crc) id word) (receivedChannel d (o .channel) (o .m) (crcRight id word aux crc) word)))
         (cond b (o .readbacks) (receivedWords d (o .channel) (o .readbacks) (o .m) x)))
         false false (kept (cond b ans.kept (receiptAnswer d)) b (x ∷ []))
     taken id word aux crc true = unwritten o _ false true refl refl refl
-    taken id word aux crc false = received o _ (crcRight id word aux crc)
+    taken id word aux crc false = received o _ (crcRight id word aux crc) word
 
     go : (q : Reading)
         → Buffered o (withReadbacks (withChannel o (replyAs q (o .channel) (o .m))) (replyWordsAs q (o .channel) (o .readbacks) (o .m) (o .user))) false false

@@ -64,10 +64,10 @@ tick-commands id f (transmission.Word word k) h = go (isDue (f .waiting)) refl
     go true e = clash (sym (ap isSetpoint (h e)))
     go false e = refl
 
-pub disposition-commands : (d : Disposition) (c : Channel) (m : ℕ) (right : Bool) → receivedChannel d c m right .commands ≡ c .commands
-disposition-commands disposition.Unsolicited c m right = refl
-disposition-commands disposition.Lost c m right = refl
-disposition-commands disposition.Kept c m right = refl
+pub disposition-commands : (d : Disposition) (c : Channel) (m : ℕ) (right : Bool) (word : ℕ) → receivedChannel d c m right word .commands ≡ c .commands
+disposition-commands disposition.Unsolicited c m right word = refl
+disposition-commands disposition.Lost c m right word = refl
+disposition-commands disposition.Kept c m right word = refl
 
 pub not-taken : (f : CommandFrames) (wrong : Bool) (id word : ℕ) → takes f ≡ false → received f wrong id word ≡ f
 unfolding received
@@ -78,11 +78,11 @@ unfolding replyOf replyAnswer
 reply-commands c m f = go (read f)
   where
     fields : (id word aux crc : ℕ) (b : Bool) → takes (c .commands) ≡ b
-        → cond b (commandReply c (crcRight id word aux crc) id word) (receivedChannel (dispositionNow c m) c m (crcRight id word aux crc)) .commands
+        → cond b (commandReply c (crcRight id word aux crc) id word) (receivedChannel (dispositionNow c m) c m (crcRight id word aux crc) word) .commands
         ≡ repliedTo (frame.fields id word aux crc) (cond b ans.kept (receiptAnswer (dispositionNow c m))) (c .commands)
     fields id word aux crc true e = refl
     fields id word aux crc false e =
-        disposition-commands (dispositionNow c m) c m (crcRight id word aux crc)
+        disposition-commands (dispositionNow c m) c m (crcRight id word aux crc) word
         ∙ sym
         (either (λ (g : CommandFrames). g ≡ c .commands) (isKept (receiptAnswer (dispositionNow c m)))
         (not-taken (c .commands) (not (crcRight id word aux crc)) id word e) refl)

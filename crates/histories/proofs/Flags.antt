@@ -131,10 +131,10 @@ module _ (polling : Bool) where
       go false true = refl
       go false false = refl
 
-  keeps-disposition : (d : Disposition) (c : Channel) (m : ℕ) (right : Bool) → Keeps c (receivedChannel d c m right)
-  keeps-disposition disposition.Unsolicited c m right = refl
-  keeps-disposition disposition.Lost c m right = same-crc (c .status) right
-  keeps-disposition disposition.Kept c m right = same-crc (c .status) right
+  keeps-disposition : (d : Disposition) (c : Channel) (m : ℕ) (right : Bool) (word : ℕ) → Keeps c (receivedChannel d c m right word)
+  keeps-disposition disposition.Unsolicited c m right word = refl
+  keeps-disposition disposition.Lost c m right word = same-crc (c .status) right
+  keeps-disposition disposition.Kept c m right word = same-crc (c .status) right
 
   keeps-reply : (c : Channel) (m f : ℕ) → Keeps c (replyOf c m f)
   unfolding replyOf
@@ -144,7 +144,7 @@ module _ (polling : Bool) where
       go (frame.refused k) = refl
       go (frame.fields id word aux crc) =
           either (Keeps c) (takes (c .commands)) (same-crc (c .status) (crcRight id word aux crc))
-          (keeps-disposition (dispositionNow c m) c m (crcRight id word aux crc))
+          (keeps-disposition (dispositionNow c m) c m (crcRight id word aux crc) word)
 
   -- ---- Each call: to a status by a call with this answer, a reset or not, which reads these registers
 

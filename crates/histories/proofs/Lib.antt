@@ -11,6 +11,7 @@ pub mod Apart
 pub mod Steps
 pub mod Calls
 pub mod Parts
+pub mod Brought
 pub mod Ranges
 pub mod Commands
 pub mod Ended
@@ -28,3 +29,4 @@ pub mod Replying
 pub mod EventRegisters
 pub mod Tagged
 pub mod Tags
+pub mod Readings

@@ -264,10 +264,10 @@ module _ (m : ℕ) where
         retired = h .retired;
       }
 
-  disposition-range : (d : Disposition) (c : Channel) (right : Bool) → ChannelInRange m c → ChannelInRange m (receivedChannel d c m right)
-  disposition-range disposition.Unsolicited c right h = h
-  disposition-range disposition.Lost c right h = with-sequencer _ _ (with-status c _ (crc-range (c .status) right (h .status)) h)
-  disposition-range disposition.Kept c right h =
+  disposition-range : (d : Disposition) (c : Channel) (right : Bool) (word : ℕ) → ChannelInRange m c → ChannelInRange m (receivedChannel d c m right word)
+  disposition-range disposition.Unsolicited c right word h = h
+  disposition-range disposition.Lost c right word h = with-sequencer _ _ (with-status c _ (crc-range (c .status) right (h .status)) h)
+  disposition-range disposition.Kept c right word h =
       record {
         status = crc-range (c .status) right (h .status);
         registers = h .registers;
@@ -285,4 +285,4 @@ module _ (m : ℕ) where
           either (ChannelInRange m) (takes (c .commands))
           (with-commands _ _ (received-commands (c .commands) (not (crcRight id word aux crc)) id word (h .commands))
           (with-status c _ (crc-range (c .status) (crcRight id word aux crc) (h .status)) h))
-          (disposition-range (dispositionNow c m) c (crcRight id word aux crc) h)
+          (disposition-range (dispositionNow c m) c (crcRight id word aux crc) word h)

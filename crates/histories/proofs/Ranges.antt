@@ -11,13 +11,14 @@ use Rattle.register_map.specs.AccessRule.{channelAccess}
 use Rattle.register_map.specs.AccessRefusals.{writeRefusal}
 use Rattle.status.specs.Bits.{bitAt}
 use Rattle.status.proofs.Laws.{enable-drops}
+use Rattle.adc_words.specs.declared.AdcWord.the-variants as adc
 use Rattle.sequencer.specs.declared.Sequencer.{Sequencer}
 use Rattle.sequencer.specs.Playing.{shortfall, missingWith}
 use Rattle.command_frames.specs.declared.CommandFrames.{CommandFrames}
-use Rattle.command_frames.specs.Commanding.{isDue}
+use Rattle.command_frames.specs.Commanding.{isDue, takes}
 use Rattle.channel_core.specs.declared.Channel.{Channel}
 use Rattle.channel_core.specs.State as state
-use Rattle.channel_core.specs.Answers.{Answer, isFrame}
+use Rattle.channel_core.specs.Answers.{Answer, isFrame, isReceived}
 use Rattle.channel_core.specs.Behaviour.{userChanged}
 use Rattle.channel_registers.specs.Calls.{cannotSend, registerRefusal, registerEffect, readEffect}
 use Rattle.channel.specs.Calls.{outside, armedOf, mainTaken}
@@ -25,9 +26,11 @@ use Rattle.channel.specs.OneChannel.{ChannelCall, OneChannel, oneChannel, lengt
 use Rattle.channel.specs.OneChannel as call
 use Rattle.channel.proofs.Cases.{passed, either}
 use Rattle.channel.proofs.Ranges.{inside}
-use Rattle.histories.specs.History.{entry, resets, readsAt}
-use Rattle.histories.specs.Ranges.{Quiet, SequencerInRange, ChannelInRange, Apart, InRange, CallKeepsRange, StaysInRange}
+use Rattle.histories.specs.History.{isKept, entry, asks, resets, readsAt}
+use Rattle.histories.specs.Windows.{idles}
+use Rattle.histories.specs.Ranges.{Quiet, AdcWordsInRange, SequencerInRange, ChannelInRange, Apart, InRange, CallKeepsRange, StaysInRange}
 use Rattle.histories.proofs.Accepted.{then-passed}
+use Rattle.histories.proofs.Brought.{adc-brought, lost-range, adc-range}
 use Rattle.histories.proofs.Calls.{steps, read-sequencer, main-sequencer}
 use Rattle.histories.proofs.Leaves.{leaves-read, leaves-main}
 use Rattle.histories.proofs.Apart.{ApartIn, apart-opened, apart-event, apart-user, apart-arm, apart-disarm, apart-tick, apart-reply, apart-register}
@@ -223,6 +226,11 @@ range-step o k h =
       index-due = t .index-step (h .depth) (h .sequencer .index-due);
       countdown = t .countdown-step (h .sequencer .countdown);
       replies = t .replies-step (h .sequencer .replies);
+      adc =
+          subst AdcWordsInRange (sym (t .adc-step))
+          (adc-range (idles (entry o k)) (isFrame (response o k) && not (isDue (o .channel .commands .waiting)))
+          (isReceived (response o k) && not (takes (o .channel .commands))) (o .channel .sequencer .last .replies) (cond (isKept (response o k)) (asks o k .adc) adc.Lost)
+          (o .channel .sequencer .last .adc) (adc-brought o k (isKept (response o k))) (h .sequencer .adc));
       missing =
           subst (λ (j : ℕ). j ≤ 255) (sym (t .missing-step))
           (missing-few (resets (entry o k) || readsAt 0x0c (entry o k)) (isFrame (response o k) && not (isDue (o .channel .commands .waiting)))
@@ -257,7 +265,7 @@ stays-in-range n m setpoints readbacks some more s r ks =
       user-to = omega arith;
       channel = opened-range m;
       sequencer =
-          record { index-due = some; countdown = tt; replies = omega arith; missing = omega arith; quiet = λ e. refl };
+          record { index-due = some; countdown = tt; replies = omega arith; adc = lost-range; missing = omega arith; quiet = λ e. refl };
       apart = apart-opened;
       setpoint-words = s;
       readback-words = r;

@@ -83,7 +83,7 @@ module _
       where
         go : (theirs due space : Bool) → hasSpace (o .m) g ≡ space
             → cond theirs (commandReply (o .channel) (crcRight id word aux crc) id word)
-            (receivedChannel (cond due (cond space disposition.Kept disposition.Lost) disposition.Unsolicited) (o .channel) (o .m) (crcRight id word aux crc))
+            (receivedChannel (cond due (cond space disposition.Kept disposition.Lost) disposition.Unsolicited) (o .channel) (o .m) (crcRight id word aux crc) word)
             .readbacks .stored
             ≡ cond (not theirs && (due && space)) (length (g .current) + 1) (length (g .current))
         go true due space e = full
@@ -121,7 +121,7 @@ module _
       where
         go : (theirs due space : Bool)
             → cond theirs (commandReply (o .channel) (crcRight id word aux crc) id word)
-            (receivedChannel (cond due (cond space disposition.Kept disposition.Lost) disposition.Unsolicited) (o .channel) (o .m) (crcRight id word aux crc))
+            (receivedChannel (cond due (cond space disposition.Kept disposition.Lost) disposition.Unsolicited) (o .channel) (o .m) (crcRight id word aux crc) word)
             .status
             ≡ cond (theirs || due) (crcStatus (o .channel .status) (crcRight id word aux crc)) (o .channel .status)
         go true due space = refl
@@ -138,11 +138,11 @@ module _
       where
         go : (theirs : Bool) → takes (o .channel .commands) ≡ theirs
             → cond theirs (commandReply (o .channel) (crcRight id word aux crc) id word)
-            (receivedChannel (dispositionNow (o .channel) (o .m)) (o .channel) (o .m) (crcRight id word aux crc)) .commands
+            (receivedChannel (dispositionNow (o .channel) (o .m)) (o .channel) (o .m) (crcRight id word aux crc) word) .commands
             ≡ received (o .channel .commands) (not (crcRight id word aux crc)) id word
         go true e = refl
         go false e =
-            disposition-commands (dispositionNow (o .channel) (o .m)) (o .channel) (o .m) (crcRight id word aux crc)
+            disposition-commands (dispositionNow (o .channel) (o .m)) (o .channel) (o .m) (crcRight id word aux crc) word
             ∙ sym (not-taken (o .channel .commands) (not (crcRight id word aux crc)) id word e)
 
     replied : Replied o f w g (o .m) number id word aux crc

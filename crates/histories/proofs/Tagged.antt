@@ -199,14 +199,14 @@ same-reply : (c : Channel) (m f : ℕ) → Same c (replyOf c m f)
 unfolding replyOf seq.answered
 same-reply c m f = go (read f)
   where
-    disposed : (d : Disposition) (right : Bool) → Same c (receivedChannel d c m right)
-    disposed disposition.Unsolicited right = refl
-    disposed disposition.Lost right = refl
-    disposed disposition.Kept right = refl
+    disposed : (d : Disposition) (right : Bool) (word : ℕ) → Same c (receivedChannel d c m right word)
+    disposed disposition.Unsolicited right word = refl
+    disposed disposition.Lost right word = refl
+    disposed disposition.Kept right word = refl
 
     go : (g : Reading) → Same c (replyAs g c m)
     go (frame.refused k) = refl
-    go (frame.fields id word aux crc) = either (Same c) (takes (c .commands)) refl (disposed (dispositionNow c m) (crcRight id word aux crc))
+    go (frame.fields id word aux crc) = either (Same c) (takes (c .commands)) refl (disposed (dispositionNow c m) (crcRight id word aux crc) word)
 
 -- a setpoint send uses the tag, and a tick that sends none leaves all
 held-played : (o : OneChannel) (g : Tags) → Held (o .channel) g

@@ -11,6 +11,7 @@ use borrow.Table.Elements.{map-app}
 use Rattle.frame.specs.Frames.{Reading, read, framed, idOf, dataOf, auxOf, crcIn, crcRight}
 use Rattle.frame.specs.Frames as frame
 use Rattle.status.specs.Bits.{bitAt}
+use Rattle.adc_words.specs.declared.AdcWord.{AdcWord}
 use Rattle.sequencer.specs.Playing.{isIdle}
 use Rattle.readback.specs.declared.Disposition.the-variants as disposition
 use Rattle.readback.specs.Storing.{isDue, dispositionOf, capacity}
@@ -27,6 +28,7 @@ use Rattle.histories.specs.TagChanges.{Tags, openedTags}
 use Rattle.histories.specs.History.{isKept, Entry, Told, told, replyWord, asks, resets, endsGroup}
 use Rattle.histories.specs.Keeping.{Groups, nothingKept, switched, keptWith, groupsAfter, storedBy, keptAfter, keptSince, keptOver}
 use Rattle.histories.specs.Tags.{tagsAfter, tagsSince, TagsTold, marksSince, marksOver, marksIn, MarksKept, MarksRetired}
+use Rattle.histories.proofs.Brought.{brought}
 use Rattle.histories.proofs.Buffered.{toldAt}
 use Rattle.histories.proofs.Commands.{toldFrom, told-next}
 use Rattle.histories.proofs.EventRegisters.{reads-event}
@@ -117,19 +119,13 @@ reply-sent o lent f = go (eqb (refusalOf o (call.reply lent f)) 0) (read f)
 -- what a call stores has the mark that is told
 marked-asked : (o : OneChannel) (k : ChannelCall) (g : Tags) → Held (o .channel) g
     → (isKept (response o k) && not (takes (o .channel .commands))) ≡ true → Marked (g .tagged) (asks o k .word)
-marked-asked o (call.writeRegister lent offset value) g h e = refl
-marked-asked o (call.readRegister offset) g h e = refl
-marked-asked o (call.writeSetpoint lent user buffer index word) g h e = refl
-marked-asked o call.arm g h e = refl
-marked-asked o call.disarm g h e = refl
-marked-asked o (call.reply lent f) g h e =
-    subst (λ (mark : Bool). Marked mark (replyWord o (read f))) (h .tagged (reply-sent o lent f e)) (marked-reply o f)
-marked-asked o (call.query which one two) g h e = refl
-marked-asked o (call.tick lent) g h e = refl
-marked-asked o (call.event lent code) g h e = refl
-marked-asked o (call.changeUser user) g h e = refl
-marked-asked o (call.writeMain lent offset value) g h e = refl
-marked-asked o (call.readMain offset) g h e = refl
+marked-asked o k g h e =
+    brought (λ (words : List ℕ) (a : AdcWord). Marked (g .tagged) words) o k
+    (λ lent f is.
+    subst (λ (mark : Bool). Marked mark (replyWord o (read f)))
+    (h .tagged (reply-sent o lent f (subst (λ (x : ChannelCall). (isKept (response o x) && not (takes (o .channel .commands))) ≡ true) is e)))
+    (marked-reply o f))
+    refl
 
 marked-stored : (o : OneChannel) (k : ChannelCall) (g : Tags) → Held (o .channel) g → Marked (g .tagged) (storedBy (toldAt o k))
 marked-stored o k g h =

@@ -11,3 +11,4 @@ pub mod Missing
 pub mod Ranges
 pub mod EndWords
 pub mod Tags
+pub mod Readings

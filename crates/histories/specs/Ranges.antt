@@ -1,7 +1,7 @@
 -- Document 01, 'The bench and its memory' and 'A channel's life': the ranges of what a channel holds, which it keeps to over any list of calls. So no
 -- default past a list's end or below a range is ever used. Document 02, card 1: nor that of a tick on which a command frame and a setpoint would leave.
 -- Card 2: the count of missing readbacks. Card 3: a place of each readback buffer is left for its end word. Card 6: 2C is a
--- seventh event register.
+-- seventh event register. Card 7: the data of the last send's ADC words, so that each has a code of 16 bits.
 use Prim.Native.Nat.{ℕ, _-_, _*_, _≤_, _<_}
 use mathlib.Core.Path.{_≡_}
 use mathlib.Core.Bool.{Bool, true, false}
@@ -10,6 +10,9 @@ use lib.ListN.{length, getD}
 use Rattle.status.specs.Bits.{bitAt}
 use Rattle.status.specs.declared.Status.{Status}
 use Rattle.registers.specs.declared.Registers.{Registers}
+use Rattle.adc_words.specs.declared.AdcWord.{AdcWord}
+use Rattle.adc_words.specs.declared.AdcWord.the-variants as adc
+use Rattle.adc_words.specs.declared.AdcWords.{AdcWords}
 use Rattle.sequencer.specs.declared.Stage.{Stage}
 use Rattle.sequencer.specs.declared.Stage.the-variants as stage
 use Rattle.sequencer.specs.declared.Sequencer.{Sequencer}
@@ -46,10 +49,23 @@ ApartAt stage.Ended left = ⊥
 abbrev pub Quiet : Sequencer → Type 0
 Quiet s = isIdle (s .stage) ≡ true → s .last ≡ nothingSent
 
+-- the data of an ADC word has 16 bits
+abbrev pub AdcInRange : AdcWord → Type 0
+AdcInRange adc.Lost = Unit {0}
+AdcInRange adc.Damaged = Unit {0}
+AdcInRange (adc.Data word) = word < 65536
+
+pub record AdcWordsInRange (w : AdcWords) : Type 0 where
+  pub third : AdcInRange (w .third)
+  pub fourth : AdcInRange (w .fourth)
+  pub fifth : AdcInRange (w .fifth)
+  pub sixth : AdcInRange (w .sixth)
+
 pub record SequencerInRange (n : ℕ) (s : Sequencer) : Type 0 where
   pub index-due : s .index < n
   pub countdown : Countdown s
   pub replies : s .last .replies ≤ 6
+  pub adc : AdcWordsInRange (s .last .adc)
   pub missing : s .missing ≤ 255
   pub quiet : Quiet s
 

@@ -17,3 +17,4 @@ pub mod Defaults
 pub mod Alone
 pub mod EndWords
 pub mod Marks
+pub mod Readings

@@ -24,6 +24,7 @@ use Rattle.board_state.specs.Checks.{sizeMismatch, setpointsFit, readbacksFit}
 use Rattle.board.specs.Calls.{tickFrame}
 use Rattle.board.specs.Calls as board
 use Rattle.board_channels.specs.Calls as channels
+use Rattle.board_readings.specs.Calls as readings
 use Rattle.board_registers.specs.Calls as registers
 use Rattle.board.specs.Worlds.{World}
 use Rattle.isolation.specs.Calls.{writeRegister, readRegister, writeSetpoint, reply, query, tick, event, changeUser, Lent, first, second, refused, ownBuffers, given}
@@ -147,9 +148,10 @@ module _ (w : World) (c : ℕ) (h : Number c) where
 
   pub observe-query : (q : Query) (l : Lent) → ((refused (w .board) (query c q) l ≡ true) ⊎ (l ≡ given w (query c q)))
       → answerFor c (wld.answer (w .board) (query c q) l) ≡ response (view c w) (to.query q (length (first l)) (length (second l)))
-  unfolding wld.answer channels.retiredAnswer channels.retiredLength response refusalOf answer
+  unfolding wld.answer channels.retiredAnswer channels.retiredLength readings.readingsAnswer response refusalOf answer
   observe-query to.retired l f = retired-same ans.part (λ s. refl) l f
   observe-query to.retiredLength l f = retired-same (λ s. ans.partLength (length s)) (λ s. refl) l f
+  observe-query to.readings l f = rw (in-range c h)
 
   pub observe-tick : Good w → (l : Lent) → ((refused (w .board) tick l ≡ true) ⊎ (l ≡ given w tick))
       → answerFor c (wld.answer (w .board) tick l) ≡ response (view c w) (to.tick (length (first l)))

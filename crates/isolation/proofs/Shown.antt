@@ -42,6 +42,7 @@ module _ (c : ℕ) (h : Number c) (w : World) where
         receiving = refl;
         tag = refl;
         tagged = refl;
+        adc = refl;
         interruptStatus = refl;
         pollingStatus = refl;
         mainInterrupt = status-bit (w .board) false c h;

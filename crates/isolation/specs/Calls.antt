@@ -8,7 +8,7 @@ use mathlib.Core.Bool.{Bool, true, cond}
 use lib.ListN.{length, take, drop}
 use Rattle.channel_core.specs.Answers.{Answer}
 use Rattle.channel_core.specs.Answers as ans
-use Rattle.channel.specs.OneChannel.{Query, retired, retiredLength}
+use Rattle.channel.specs.OneChannel.{Query, retired, retiredLength, readings}
 use Rattle.board_state.specs.declared.Board.{Board}
 use Rattle.board_state.specs.Main.{levelOf}
 use Rattle.board_state.specs.Parts.{own}
@@ -16,10 +16,11 @@ use Rattle.board.specs.Worlds.{World, world}
 use Rattle.board.specs.Answers.{BoardAnswer, one, refuses}
 use Rattle.board.specs.Calls as board
 use Rattle.board_channels.specs.Calls as channels
+use Rattle.board_readings.specs.Calls.{readingsAnswer}
 use Rattle.board_registers.specs.Calls as registers
 
--- "In the list stand the calls under Calls, the retired call's twin": a call's arguments alone. `query` are those that name a channel and
--- change nothing in any state: retired readbacks and its twin
+-- "In the list stand the calls under Calls, the retired call's twin, and, from its request on, each call on the board that a later request adds": a call's
+-- arguments alone. `query` are those that name a channel and change nothing in any state: retired readbacks and its twin, and card 7's readings
 pub data Call : Type 0 where
   writeRegister : (address value : ℕ) → Call
   readRegister : (address : ℕ) → Call
@@ -64,6 +65,7 @@ lengths (buffers s t) = length s ∷ (length t ∷ [])
 abbrev pub queryAnswerAt : Board → ℕ → Query → Lent → Answer
 queryAnswerAt b number retired l = channels.retiredAnswer b number (first l) (second l)
 queryAnswerAt b number retiredLength l = channels.retiredLength b number (first l) (second l)
+queryAnswerAt b number readings l = readingsAnswer b number
 
 unfoldable pub answer : Board → Call → Lent → BoardAnswer
 answer b (writeRegister address value) l = one (registers.writeAnswer b (length (first l)) address value)
@@ -128,6 +130,7 @@ pub data Lending : Type 0 where
 abbrev pub queryLending : ℕ → Query → Lending
 queryLending number retired = lendsBuffers number
 queryLending number retiredLength = lendsBuffers number
+queryLending number readings = lendsNothing
 
 abbrev pub lending : Call → Lending
 lending (writeRegister address value) = lendsReadbacks

@@ -16,6 +16,7 @@ use Rattle.command_frames.specs.Commanding.{takes}
 use Rattle.channel_core.specs.declared.Channel.{Channel}
 use Rattle.channel_core.specs.Answers.{Answer, isRefusal, isFrame, unless}
 use Rattle.channel_core.specs.Answers as ans
+use Rattle.channel_readings.specs.Reading as reading
 use Rattle.channel_replies.specs.Replying.{receiptAnswer, dispositionNow, replyAnswerAs, replyAnswer}
 use Rattle.channel_registers.specs.Calls as channel-registers
 use Rattle.channel.specs.Calls as chn
@@ -29,6 +30,7 @@ use Rattle.board_state.specs.Checks.{noChannel, setpointsFit, readbacksFit}
 use Rattle.board_registers.specs.Calls.{readAnswerAt, writeAnswerAt}
 use Rattle.board.specs.Calls as board
 use Rattle.board_channels.specs.Calls as channels
+use Rattle.board_readings.specs.Calls.{readingsAnswer}
 use Rattle.board_registers.specs.Calls as registers
 use Rattle.isolation.specs.Calls.{Call, writeRegister, readRegister, writeSetpoint, arm, disarm, reply, query, tick, event, changeUser, interruptLevel, Lent, first, second, queryAnswerAt, answer}
 use Rattle.isolation.specs.Feeding.{only, Scope, ofOne, ofEach, ofMain, ofAll, ofNone, writeScope, readScope, answerFor, shared, sharedRead, observeIn, observe}
@@ -109,13 +111,14 @@ observed-quiet c ofAll a q = one-quiet (shared a) (by-test Quiet (isRefusal a) (
 observed-quiet c ofNone a q = refl
 
 query-quiet : (b : Board) (d : ℕ) (q : Query) (l : Lent) → Quiet (queryAnswerAt b d q l)
-unfolding channels.retiredAnswer channels.retiredLength
+unfolding channels.retiredAnswer channels.retiredLength readingsAnswer reading.readingsAnswer
 query-quiet b d to.retired l =
     unless-quiet (channels.retiredRefusal b d (length (first l)) (length (second l))) (ans.part (channels.retiredWords b d (first l) (second l)))
     (record { quiet = refl })
 query-quiet b d to.retiredLength l =
     unless-quiet (channels.retiredRefusal b d (length (first l)) (length (second l))) (ans.partLength (length (channels.retiredWords b d (first l) (second l))))
     (record { quiet = refl })
+query-quiet b d to.readings l = by-test Quiet (noChannel d) (λ t. record { quiet = refl }) (λ t. record { quiet = refl })
 
 pub frames-observed : (c : ℕ) (b : Board) (x : Call) (l : Lent) → howMany isFrame (observe c x (answer b x l)) ≡ howMany (sends c) (answer b x l ∷ [])
 unfolding howMany answer registers.writeAnswer registers.readAnswer board.tickBoardAnswer board.eventAnswer board.userAnswer

@@ -107,7 +107,7 @@ fn none(block: &mut Block) {
     output::text(block, b" none");
 }
 
-// A call that is lent nothing: kinds 2, 4, 5, 11, 12.
+// A call that is lent nothing: kinds 2, 4, 5, 11, 12, 15.
 fn plain_call(block: &mut Block, b: Board, record: Record) -> Board {
     let kind = record.kind;
     match kind {
@@ -117,6 +117,10 @@ fn plain_call(block: &mut Block, b: Board, record: Record) -> Board {
         11 => printed_calls::change_user(block, b, record.x),
         12 => {
             printed_calls::interrupt_level(block, b);
+            b
+        }
+        15 => {
+            printed_readings::last_readings(block, b, record.channel as u32);
             b
         }
         _ => {

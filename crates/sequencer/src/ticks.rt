@@ -7,6 +7,7 @@ use crate::Transmission;
 use crate::add_missing;
 use crate::stages;
 use crate::words;
+use adc_words::AdcWords;
 ghost use mathlib.Core.Path.{_≡_};
 ghost use Rattle.sequencer.specs.Playing.{counted, sentNext, repeated, quiet, advancing, repeating, resuming, ticked};
 
@@ -52,6 +53,7 @@ impl Sequencer {
                     id: id,
                     tagged: self.tag,
                     replies: 0,
+                    adc: AdcWords::lost(),
                 },
                 count: count_up(self.count),
                 missing: add_missing(self.missing, last.shortfall()),
@@ -86,6 +88,7 @@ impl Sequencer {
                     id: id,
                     tagged: self.tag,
                     replies: 0,
+                    adc: AdcWords::lost(),
                 },
                 count: count_up(self.count),
                 missing: add_missing(self.missing, last.shortfall()),

@@ -21,6 +21,9 @@ enum-told-3 c = search needs
 stored-word-requires : tie.Need-stored-word-requires
 stored-word-requires c κs = search needs
 
+stored-requires : tie.Need-stored-requires
+stored-requires c κs = search needs
+
 counted-requires-2 : tie.Need-counted-requires-2
 counted-requires-2 c κs = search needs
 
@@ -47,12 +50,12 @@ returns-3 : tie.Need-returns-3
 returns-3 c =
     let k = c .before .before in
     let s = k .before .before .before in
-    let e = s .before .before .before .before .before .before in
+    let e = s .before .before .before .before .before .before .before in
     let kept = e .enum-told3 .given .1 in
     rw (← e .before .before .disposition .ensures) (
-      simp (kept, s .counted2 .ensures, k .keep .ensures .0),
+      simp (kept, s .counted2 .ensures, s .before .stored .ensures, k .keep .ensures .0),
       simp (kept),
-      simp (kept, k .keep .ensures .1, k .before .readback-second-active .ensures, s .before .stored-word .ensures),
+      simp (kept, k .keep .ensures .1, k .before .readback-second-active .ensures, s .before .before .stored-word .ensures),
     )
 
 pub receive-spec : {M : Type 1} → statement M
@@ -65,6 +68,7 @@ receive-spec =
     counted-requires
     enum-told-3
     stored-word-requires
+    stored-requires
     counted-requires-2
     readback-second-active-requires
     keep-requires

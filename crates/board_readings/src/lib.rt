@@ -1,0 +1,23 @@
+// The readings of a channel's last send, by the channel's number.
+use board_state::Board;
+use channel_readings::Readings;
+use refusal::Refusal;
+ghost use mathlib.Core.Path.{_≡_};
+ghost use Rattle.board_readings.specs.Answers.{measurementOf};
+ghost use Rattle.board_readings.specs.Calls.{readingsAnswer};
+
+// The answer of the call.
+pub enum Measurement {
+    Readings(Readings),
+    Refused(Refusal),
+}
+
+// Lent nothing. The board stays as it is.
+pub fn last_readings(b: Board, number: u32) -> Measurement
+    ensures { λ r. ⌜ measurementOf r ≡ readingsAnswer b number ⌝ }
+{
+    if channel::is_outside(1, 4, number) {
+        return Measurement::Refused(Refusal::OutOfRange);
+    }
+    Measurement::Readings(channel_readings::last_readings(b.channel(number as u8)))
+}

@@ -1,0 +1,50 @@
+// The readings of a channel, printed: the words of tests/CALLS.md, kind 15, after the record's number.
+use board_readings::Measurement;
+use board_state::Board;
+use channel_readings::Reading;
+use output::Block;
+
+// The whole part of a number that is not negative; 0 of what an u64 does not hold.
+fn whole_part(x: f64) -> u64 {
+    if x > -1.0 {
+        if x < 18446744073709551616.0 {
+            return std::num::truncating_f64_to_u64(x);
+        }
+    }
+    0
+}
+
+// A voltage × 32,768, which is a whole number.
+fn volts(block: &mut Block, volts: f64) {
+    if volts < 0.0 {
+        output::numbered(block, b" -", whole_part(-volts * 32768.0));
+    } else {
+        output::numbered(block, b" ", whole_part(volts * 32768.0));
+    }
+}
+
+fn reading(block: &mut Block, reading: Reading) {
+    match reading {
+        Reading::Volts(x) => volts(block, x),
+        Reading::Lost => output::text(block, b" lost"),
+        Reading::Damaged => output::text(block, b" damaged"),
+    }
+}
+
+pub fn last_readings(block: &mut Block, b: Board, number: u32) {
+    let answer = board_readings::last_readings(b, number);
+    match answer {
+        Measurement::Readings(readings) => {
+            let third = readings.third;
+            let fourth = readings.fourth;
+            let fifth = readings.fifth;
+            let sixth = readings.sixth;
+            output::text(block, b" volts");
+            reading(block, third);
+            reading(block, fourth);
+            reading(block, fifth);
+            reading(block, sixth);
+        }
+        Measurement::Refused(reason) => printed_calls::refused(block, reason),
+    }
+}
