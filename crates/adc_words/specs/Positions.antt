@@ -13,9 +13,9 @@ use Rattle.adc_words.specs.declared.AdcWords.{AdcWords}
 abbrev pub allLost : AdcWords
 allLost = record { third = word.Lost; fourth = word.Lost; fifth = word.Lost; sixth = word.Lost }
 
--- a reply that was stored: its data, or "damaged by a wrong CRC". One that was not is lost, "with a wrong CRC or not".
-abbrev pub storedAs : (right : Bool) → ℕ → AdcWord
-storedAs right bits = cond right (word.Data bits) word.Damaged
+-- what becomes of a reply: "A reading is lost when its reply wasn't stored, with a wrong CRC or not."; else it is its data, or "damaged by a wrong CRC"
+abbrev pub adcWord : (stored right : Bool) → ℕ → AdcWord
+adcWord stored right bits = cond stored (cond right (word.Data bits) word.Damaged) word.Lost
 
 -- one more reply, `before` having come before it: the next after two is the third
 unfoldable pub withReply : AdcWords → (before : ℕ) → AdcWord → AdcWords

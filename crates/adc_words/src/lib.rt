@@ -1,7 +1,7 @@
 // The ADC words of a send, its third to sixth replies: what became of each.
 ghost use mathlib.Core.Path.{_≡_};
 ghost use mathlib.Core.Bool.{cond};
-ghost use Rattle.adc_words.specs.Positions.{allLost, storedAs, withReply};
+ghost use Rattle.adc_words.specs.Positions.{allLost, adcWord, withReply};
 
 pub enum AdcWord {
     // The reply has not come, or was not stored.
@@ -19,14 +19,17 @@ pub struct AdcWords {
     pub sixth: AdcWord,
 }
 
-// What a stored reply is worth.
-pub fn stored(right: bool, data: u16) -> AdcWord
-    ensures { λ r. ⌜ r ≡ storedAs right «data» ⌝ }
+// What becomes of a reply, stored or not, its CRC right or not.
+pub fn became(stored: bool, right: bool, data: u16) -> AdcWord
+    ensures { λ r. ⌜ r ≡ adcWord stored right «data» ⌝ }
 {
-    if right {
-        return AdcWord::Data(data);
+    if stored {
+        if right {
+            return AdcWord::Data(data);
+        }
+        return AdcWord::Damaged;
     }
-    AdcWord::Damaged
+    AdcWord::Lost
 }
 
 // The word at a position: the new one where the reply is the one of that position.

@@ -1,15 +1,14 @@
 -- Document 01, 'A channel's life': what a reply does to a channel, over the channel's own 2 × M readback words, and what it is answered.
 -- Document 02, card 1: replies to a command frame. Card 7: what a reply is worth as an ADC word.
 use Prim.Native.Nat.{ℕ}
-use mathlib.Core.Bool.{Bool, cond, not}
+use mathlib.Core.Bool.{Bool, true, false, cond, not}
 use mathlib.Core.List.{List}
 use Rattle.frame.specs.Frames.{Reading, refused, fields, read, crcRight}
 use Rattle.status.specs.declared.Status.{Status}
 use Rattle.status.specs.Latching.{latched, crcError}
 use Rattle.registers.specs.Map.{secondActive, readbackPlace}
 use Rattle.adc_words.specs.declared.AdcWord.{AdcWord}
-use Rattle.adc_words.specs.declared.AdcWord.the-variants as adc
-use Rattle.adc_words.specs.Positions.{storedAs}
+use Rattle.adc_words.specs.Positions.{adcWord}
 use Rattle.sequencer.specs.Playing.{isIdle, answered}
 use Rattle.readback.specs.declared.Disposition.{Disposition}
 use Rattle.readback.specs.declared.Disposition.the-variants as disposition
@@ -41,8 +40,8 @@ replyCounted c right adc = withSequencer (withStatus c (crcStatus (c .status) ri
 -- the channel after it; an unasked one changes nothing. Card 7: "A reading is lost when its reply wasn't stored, with a wrong CRC or not."
 abbrev pub receivedChannel : Disposition → Channel → ℕ → Bool → ℕ → Channel
 receivedChannel disposition.Unsolicited c m right word = c
-receivedChannel disposition.Lost c m right word = replyCounted c right adc.Lost
-receivedChannel disposition.Kept c m right word = withReadbacks (replyCounted c right (storedAs right word)) (keptIn (c .readbacks) m)
+receivedChannel disposition.Lost c m right word = replyCounted c right (adcWord false right word)
+receivedChannel disposition.Kept c m right word = withReadbacks (replyCounted c right (adcWord true right word)) (keptIn (c .readbacks) m)
 
 -- the readback words after it: only a kept reply is stored
 abbrev pub receivedWords : Disposition → Channel → List ℕ → ℕ → ℕ → List ℕ

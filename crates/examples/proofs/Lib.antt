@@ -5,4 +5,5 @@ pub mod CommandRows
 pub mod MissingRows
 pub mod EndWordRows
 pub mod TagRows
+pub mod ReadingRows
 pub mod Reached

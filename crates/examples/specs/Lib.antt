@@ -5,3 +5,4 @@ pub mod CommandRows
 pub mod MissingRows
 pub mod EndWordRows
 pub mod TagRows
+pub mod ReadingRows

@@ -18,8 +18,7 @@ use Rattle.sequencer.specs.declared.Sequencer.{Sequencer}
 use Rattle.sequencer.specs.declared.Transmission.{Transmission}
 use Rattle.sequencer.specs.declared.Transmission.the-variants as transmission
 use Rattle.adc_words.specs.declared.AdcWord.{AdcWord}
-use Rattle.adc_words.specs.declared.AdcWord.the-variants as adc
-use Rattle.adc_words.specs.Positions.{storedAs}
+use Rattle.adc_words.specs.Positions.{adcWord}
 use Rattle.sequencer.specs.Playing.{isIdle, nothingSent, advancing, ticked, tickedAt, loadedResume}
 use Rattle.sequencer.specs.Playing as seq
 use Rattle.sequencer.proofs.Moves.{resumed-either}
@@ -252,8 +251,8 @@ module _ (c : Channel) (p : ApartIn c) where
 
   disposition-apart : (d : Disposition) (m : ℕ) (right : Bool) (word : ℕ) → ApartIn (receivedChannel d c m right word)
   disposition-apart disposition.Unsolicited m right word = p
-  disposition-apart disposition.Lost m right word = apart-answered (c .commands) (c .sequencer) p adc.Lost
-  disposition-apart disposition.Kept m right word = apart-answered (c .commands) (c .sequencer) p (storedAs right word)
+  disposition-apart disposition.Lost m right word = apart-answered (c .commands) (c .sequencer) p (adcWord false right word)
+  disposition-apart disposition.Kept m right word = apart-answered (c .commands) (c .sequencer) p (adcWord true right word)
 
   pub apart-reply : (m f : ℕ) → ApartIn (replyOf c m f)
   unfolding replyOf

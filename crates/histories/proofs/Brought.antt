@@ -10,7 +10,7 @@ use Rattle.frame.specs.Frames as frame
 use Rattle.adc_words.specs.declared.AdcWord.{AdcWord}
 use Rattle.adc_words.specs.declared.AdcWord.the-variants as adc
 use Rattle.adc_words.specs.declared.AdcWords.{AdcWords}
-use Rattle.adc_words.specs.Positions.{allLost, storedAs, withReply}
+use Rattle.adc_words.specs.Positions.{allLost, adcWord, withReply}
 use Rattle.channel.specs.OneChannel.{ChannelCall, OneChannel}
 use Rattle.channel.specs.OneChannel as call
 use Rattle.channel.proofs.Cases.{either}
@@ -39,7 +39,7 @@ adc-read f = go (framed f)
     go : (b : Bool) → AdcInRange (adcIn (cond b (frame.fields (idOf f) (dataOf f) (auxOf f) (crcIn f)) (frame.refused 7)))
     go true = stored (crcRight (idOf f) (dataOf f) (auxOf f) (crcIn f))
       where
-        stored : (right : Bool) → AdcInRange (storedAs right (dataOf f))
+        stored : (right : Bool) → AdcInRange (adcWord true right (dataOf f))
         stored true = omega arith
         stored false = tt
     go false = tt

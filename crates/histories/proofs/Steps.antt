@@ -11,7 +11,7 @@ use Rattle.frame.proofs.Frames.{round-trip}
 use Rattle.adc_words.specs.declared.AdcWord.{AdcWord}
 use Rattle.adc_words.specs.declared.AdcWord.the-variants as adc
 use Rattle.adc_words.specs.declared.AdcWords.{AdcWords}
-use Rattle.adc_words.specs.Positions.{allLost, storedAs, withReply}
+use Rattle.adc_words.specs.Positions.{allLost, adcWord, withReply}
 use Rattle.sequencer.specs.declared.LastSend.{LastSend}
 use Rattle.sequencer.specs.declared.Stage.the-variants as stage
 use Rattle.sequencer.specs.declared.Sequencer.{Sequencer}
@@ -249,7 +249,7 @@ answered-steps n s a due takes word plain received ours e =
     }
 
 disposition-steps : {id : ℕ} (n : ℕ) (c : Channel) (m : ℕ) (right : Bool) (word : ℕ) (due takes : Bool) → takes ≡ false
-    → Steps n id (c .sequencer) (receiptAnswer (dispositionNow c m)) due takes false false false false (storedAs right word)
+    → Steps n id (c .sequencer) (receiptAnswer (dispositionNow c m)) due takes false false false false (adcWord true right word)
     (receivedChannel (dispositionNow c m) c m right word .sequencer)
 unfolding dispositionNow dispositionOf
 disposition-steps {id} n c m right word due takes ours =
@@ -257,9 +257,9 @@ disposition-steps {id} n c m right word due takes ours =
   where
     go : (asked space : Bool) → rb.isDue (isIdle (c .sequencer .stage)) (c .sequencer .last) ≡ asked
         → let d : Disposition = cond asked (cond space disposition.Kept disposition.Lost) disposition.Unsolicited in
-        Steps n id (c .sequencer) (receiptAnswer d) due takes false false false false (storedAs right word) (receivedChannel d c m right word .sequencer)
-    go true true e = answered-steps n (c .sequencer) ans.kept due takes (storedAs right word) refl refl ours e
-    go true false e = answered-steps n (c .sequencer) ans.lost due takes (storedAs right word) refl refl ours e
+        Steps n id (c .sequencer) (receiptAnswer d) due takes false false false false (adcWord true right word) (receivedChannel d c m right word .sequencer)
+    go true true e = answered-steps n (c .sequencer) ans.kept due takes (adcWord true right word) refl refl ours e
+    go true false e = answered-steps n (c .sequencer) ans.lost due takes (adcWord true right word) refl refl ours e
     go false space e = same-steps n c ans.unsolicited (c .sequencer) (refl, refl) refl
 
 -- a reply to a command frame leaves the sequencer, and counts for no setpoint
@@ -284,7 +284,7 @@ reply-steps {own} n c m f due = go (read f)
   where
     fields : (id word aux crc : ℕ) (b : Bool) → cmd.takes (c .commands) ≡ b
         → Steps n own (c .sequencer) (cond b ans.kept (receiptAnswer (dispositionNow c m))) due (cmd.takes (c .commands)) false false false false
-        (storedAs (crcRight id word aux crc) word)
+        (adcWord true (crcRight id word aux crc) word)
         (cond b (commandReply c (crcRight id word aux crc) id word) (receivedChannel (dispositionNow c m) c m (crcRight id word aux crc) word) .sequencer)
     fields id word aux crc true e = command-steps n c due (cmd.takes (c .commands)) e
     fields id word aux crc false e = disposition-steps n c m (crcRight id word aux crc) word due (cmd.takes (c .commands)) e

@@ -14,7 +14,7 @@ use Rattle.status.specs.Bits.{bitAt}
 use Rattle.registers.specs.Map.{triggersOf, groupEndEvent}
 use Rattle.adc_words.specs.declared.AdcWord.{AdcWord}
 use Rattle.adc_words.specs.declared.AdcWord.the-variants as adc
-use Rattle.adc_words.specs.Positions.{storedAs}
+use Rattle.adc_words.specs.Positions.{adcWord}
 use Rattle.readback.specs.Storing.{storedWord}
 use Rattle.command_frames.specs.declared.CommandFrames.{CommandFrames}
 use Rattle.command_frames.specs.Commanding.{isDue, takes, received}
@@ -48,7 +48,7 @@ replyWord o (frame.fields id word aux crc) = storedWord (o .channel .sequencer .
 -- what a reply is worth as an ADC word if it is stored, by the data and the CRC of its own frame
 abbrev pub adcIn : Reading → AdcWord
 adcIn (frame.refused k) = adc.Lost
-adcIn (frame.fields id word aux crc) = storedAs (crcRight id word aux crc) word
+adcIn (frame.fields id word aux crc) = adcWord true (crcRight id word aux crc) word
 
 -- a reply that was answered kept
 abbrev pub isKept : Answer → Bool
