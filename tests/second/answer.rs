@@ -1,6 +1,7 @@
 //! The answers to calls, as `trace` and `calls` print them.
 
 use crate::board::{Board, Reply};
+use crate::volts::Reading;
 use std::fmt;
 
 #[derive(Clone, PartialEq, Debug)]
@@ -15,6 +16,7 @@ pub enum Answer {
     Level(u16),
     /// The words that a ramp wrote to each buffer.
     Wrote(usize),
+    Volts([Reading; 4]),
     /// A script record that makes no call.
     None,
     Refused(u8),
@@ -39,6 +41,10 @@ impl fmt::Display for Answer {
             Answer::Length(n) => write!(f, "length {n}"),
             Answer::Level(n) => write!(f, "level {n}"),
             Answer::Wrote(n) => write!(f, "wrote {n}"),
+            Answer::Volts(readings) => {
+                write!(f, "volts")?;
+                readings.iter().try_for_each(|reading| write!(f, " {reading}"))
+            }
             Answer::None => write!(f, "none"),
             Answer::Refused(n) => write!(f, "refused {n}"),
         }
@@ -56,6 +62,7 @@ pub fn ticks(board: &mut Board, setpoints: &[u32], count: u32) -> Answer {
     board.tally_ticks(setpoints, count);
     board.watch_record();
     board.watch_tag_record();
+    board.watch_volts_record();
     for t in 1..=count {
         match board.tick(setpoints) {
             Ok(frames) => sent.extend((1..=4).filter_map(|c| frames[c - 1].map(|frame| (t, c, frame)))),

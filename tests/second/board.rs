@@ -8,6 +8,7 @@ mod missing;
 mod peek;
 mod replies;
 mod tag;
+mod volts;
 
 pub use self::peek::Peek;
 pub use self::replies::Reply;
@@ -16,6 +17,7 @@ use self::end_word::Groups;
 use self::life::Asked;
 use self::missing::Watch;
 use self::tag::{Dropped, Tags};
+use self::volts::{Idled, Readings};
 use crate::channel::{Channel, Window, CLOCK, SWITCH, TAG};
 use crate::map::{place, rule, Place};
 use crate::tally::{Did, Tally};
@@ -39,15 +41,17 @@ pub struct Board {
     groups: [Groups; 4],
     unread: [Unread; 4],
     tags: [Tags; 4],
+    readings: [Readings; 4],
 }
 
 impl Board {
     /// "all registers 0, channels disarmed, user 1, buffers 1 active, no readbacks"
     fn blank(n: u32, m: u32) -> Board {
         let ch = [Channel::new(), Channel::new(), Channel::new(), Channel::new()];
-        let (watch, groups, unread, tags) = Default::default();
+        let (watch, groups, unread, tags, readings) = Default::default();
         let (main, tally) = ([0, 0], Tally::new());
-        Board { n, m, user: 1, now: 0, level: 0, vector: 0, enable: 0, main, ch, tally, watch, groups, unread, tags }
+        let (user, now, level, vector, enable) = (1, 0, 0, 0, 0);
+        Board { n, m, user, now, level, vector, enable, main, ch, tally, watch, groups, unread, tags, readings }
     }
 
     /// Misfit: "a depth out of range, or lent lengths other than 64 × N and 8 × M". What a
@@ -91,6 +95,7 @@ impl Board {
             0x06 => {
                 self.tally.add(Did::reset_without_d0);
                 self.watch_tag_kept(c, Did::tag_kept_over_reset_without_d0);
+                self.watch_volts_kept(c, Did::volts_kept_over_reset_without_d0);
             }
             0x08 => self.act(c, Asked::by_command(value), readbacks),
             0xFC => return self.ask_command(c, value),
@@ -107,6 +112,7 @@ impl Board {
         self.drop_command(c, Did::command_dropped_by_reset);
         self.close_window(c, Window::Closed);
         self.drop_tag(c, Dropped::Reset);
+        self.watch_volts_idled(c, Idled::Reset);
         self.watch_reset(c);
         self.watch_group_reset(c);
         self.watch_crc_reset(c);
@@ -195,6 +201,7 @@ impl Board {
         if self.ch[c].armed {
             self.tally.add(Did::arm_armed);
             self.watch_tag_kept(c, Did::tag_kept_over_arm);
+            self.watch_volts_kept(c, Did::volts_kept_over_arm);
         }
         self.ch[c].armed = true;
         Ok(())
@@ -207,6 +214,7 @@ impl Board {
         let is_armed = self.ch[c].armed;
         self.drop_command(c, if is_armed { Did::command_dropped_by_disarm } else { Did::command_dropped_by_disarm_of_disarmed });
         self.drop_tag(c, Dropped::Disarm);
+        self.watch_volts_idled(c, Idled::Disarm);
         self.watch_idling(c, Did::missing_idled_by_disarm, Did::missing_kept_over_disarm);
         self.ch[c].function = None;
         self.ch[c].armed = false;
@@ -215,7 +223,7 @@ impl Board {
 
     /// Refusal 1, of the whole tick. "A tick answers with each channel's frame or none."
     pub fn tick(&mut self, setpoints: &[u32]) -> Result<[Option<u64>; 4], u8> {
-        self.setpoints_fit(setpoints).inspect_err(|_| self.tally.add(Did::tick_refused))?;
+        self.setpoints_fit(setpoints).inspect_err(|_| self.tally_tick_refused())?;
         self.now += 1;
         let mut frames = [None; 4];
         for c in 0..4 {
@@ -251,11 +259,15 @@ impl Board {
     /// Refusal 2. "A user change to another user idles every channel, with EE as above."
     pub fn change_user(&mut self, user: u32) -> Result<(), u8> {
         if !(1..=8).contains(&user) {
+            (0..4).for_each(|c| self.watch_volts_kept(c, Did::volts_kept_over_refused_user));
             return Err(2);
         }
         if user == self.user {
             self.tally.add(Did::user_same);
-            (0..4).for_each(|c| self.watch_tag_kept(c, Did::tag_kept_over_same_user));
+            for c in 0..4 {
+                self.watch_tag_kept(c, Did::tag_kept_over_same_user);
+                self.watch_volts_kept(c, Did::volts_kept_over_same_user);
+            }
             return Ok(());
         }
         self.tally.add(Did::user_changed);
@@ -263,6 +275,7 @@ impl Board {
         for c in 0..4 {
             self.watch_idling(c, Did::missing_idled_by_user_change, Did::missing_kept_over_user_change);
             self.watch_tag_kept(c, Did::tag_kept_over_user_change);
+            self.watch_volts_idled(c, Idled::UserChange);
             self.end_function(c, Did::ee_by_user_change);
             if self.is_for_command(c) {
                 self.tally.add(Did::command_window_open_at_user_change);

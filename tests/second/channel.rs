@@ -3,6 +3,8 @@
 //! Time is absolute: a function knows the tick on which its next frame leaves, counted since the
 //! board was opened. Registers are kept as the words that the map shows, at half their offset.
 
+use crate::volts::Reading;
+
 // "Channel status: D15 RUN, D14 EOF, D13 GE, D12 EE, D11–D8 pauses 4–1, D7 VME pause, D2 CRC."
 pub const RUN: u16 = 1 << 15;
 pub const EOF: u16 = 1 << 14;
@@ -47,6 +49,8 @@ pub struct Sent {
     pub id: u8,
     /// The replies after it, kept or lost, at most six.
     pub replies: u32,
+    /// What is read of the third to sixth (document 02, request 7).
+    pub readings: [Reading; 4],
 }
 
 /// A function that is not idle.

@@ -1,9 +1,10 @@
-//! `selftest`: document 01's starred examples, and examples of document 02's requests 3 to 6, run on this program.
+//! `selftest`: document 01's starred examples, and examples of document 02's requests 3 to 7, run on this program.
 
 mod crc;
 mod end_word;
 mod ramp;
 mod tag;
+mod volts;
 
 use crate::board::{Board, Reply};
 use crate::frame::{crc, frame};
@@ -63,7 +64,8 @@ impl Small {
 type Done = Vec<(&'static str, bool)>;
 
 pub fn all() -> Done {
-    [frames(), starts(), resumes(), kept_words(), files(), end_word::all(), ramp::all(), crc::all(), tag::all()].concat()
+    let of_requests = [end_word::all(), ramp::all(), crc::all(), tag::all(), volts::all()];
+    [frames(), starts(), resumes(), kept_words(), files(), of_requests.concat()].concat()
 }
 
 fn frames() -> Done {

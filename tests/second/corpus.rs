@@ -17,6 +17,7 @@ mod ramp;
 mod story;
 mod summary;
 mod tag;
+mod volts;
 mod world;
 
 pub use self::files::generate;

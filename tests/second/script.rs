@@ -10,6 +10,7 @@
 //!    4 arm   5 disarm                          11 user x
 //!    6 reply y + z × 2^32      (readbacks)     12 interrupt level   13 poke
 //!   14 ramp of y breakpoints, N x, lent z low and z high words, with no board
+//!   15 voltages
 //!
 //! Lent codes: 0 right, 1 one word short, 2 empty, 3 the other pool's first words, 4 one word
 //! long; of the retired calls: 0 own, 1 first short, 2 both empty, 3 the next channel's,
@@ -101,6 +102,7 @@ impl Bench {
             opened.watch_opening(&self.board);
             opened.watch_tag_opening(&self.board);
         }
+        opened.watch_volts_opening(&self.board);
         opened.tally.join(&self.board.tally);
         self.board = opened;
         answer(said, |_| Answer::Ok)
@@ -146,6 +148,15 @@ impl Bench {
         answer(ramp(&points, n, codes, remainders), Answer::Wrote)
     }
 
+    /// It is lent nothing, whatever the lent code.
+    fn voltages(&mut self, c: u32, code: u8) -> Answer {
+        let told = self.board.voltages(c);
+        if told.is_ok() && (1..=4).contains(&code) {
+            self.board.tally.add(Did::volts_whatever_lent_code);
+        }
+        answer(told, Answer::Volts)
+    }
+
     pub fn step(&mut self, r: &[u8]) -> Answer {
         let (kind, c, code, buffer) = (r[0], r[1] as u32, r[2], r[3] as u32);
         let (x, y, z) = (number(r, 4), number(r, 8), number(r, 12));
@@ -169,6 +180,7 @@ impl Bench {
             12 => Answer::Level(board.interrupt_level()),
             13 => self.poke(c != 0, x as usize, y),
             14 => self.ramp(x, y as usize & 0xFFFF, z as usize & 0xFFFF, z as usize >> 16),
+            15 => self.voltages(c, code),
             _ => Answer::None,
         }
     }

@@ -4,7 +4,7 @@
 macro_rules! tallies {
     ($($name:ident)*) => {
         #[allow(non_camel_case_types)]
-        #[derive(Clone, Copy)]
+        #[derive(Clone, Copy, PartialEq)]
         pub enum Did { $($name),* }
         pub const DID: &[&str] = &[$(stringify!($name)),*];
     };
@@ -119,6 +119,41 @@ tallies! {
     tag_with_no_flag tag_with_d31 tag_with_d30 tag_with_d29 tag_with_d31_and_d30 tag_with_d31_and_d29 tag_of_other_user
     tag_in_part tag_word_like_end_word tag_word_like_end_word_in_part tag_words_like_end_word_in_part
     tag_word_like_end_word_begins_part tag_word_like_end_word_ends_part
+    volts_while_idle volts_while_idle_after_unasked volts_while_idle_after_command_replies
+    volts_in_start_delay volts_in_start_delay_after_unasked volts_in_start_delay_after_command_replies
+    volts_after_no_reply volts_after_1_reply volts_after_2_replies volts_after_3_replies volts_after_4_replies
+    volts_after_5_replies volts_after_6_replies
+    volts_third_read volts_third_damaged volts_third_lost volts_third_lost_crc_wrong
+    volts_fourth_read volts_fourth_damaged volts_fourth_lost volts_fourth_lost_crc_wrong
+    volts_fifth_read volts_fifth_damaged volts_fifth_lost volts_fifth_lost_crc_wrong
+    volts_sixth_read volts_sixth_damaged volts_sixth_lost volts_sixth_lost_crc_wrong
+    volts_lost_from_first volts_lost_from_second volts_lost_from_third volts_lost_from_fourth volts_lost_from_fifth
+    volts_lost_from_sixth volts_of_depth_1
+    volts_four_at_once volts_four_damaged volts_read_after_damaged volts_read_before_damaged volts_read_after_wrong_first_two
+    volts_code_0 volts_code_1 volts_code_most volts_code_least volts_code_less_1
+    volts_after_seventh volts_after_seventh_with_wrong_crc volts_after_seventh_when_sixth_is_lost
+    volts_after_seventh_when_sixth_is_damaged volts_after_reply_refused_1 volts_after_reply_refused_7
+    volts_of_send_after_unasked_while_idle volts_of_send_after_unasked_in_start_delay volts_of_send_after_command_replies
+    volts_read_in_new_start_delay volts_read_while_resuming volts_read_while_tag_is_pending
+    volts_of_reply_with_auxiliary volts_of_reply_of_other_id
+    volts_of_plain_word volts_of_first_word volts_of_paused_word volts_of_last_word volts_of_repeat volts_of_other_user
+    volts_of_tagged_send volts_of_send_of_id_15 volts_of_send_of_other_id
+    volts_lost_by_first_word volts_lost_by_next_word volts_lost_by_word_after_resume volts_lost_by_repeat_of_pause
+    volts_lost_by_repeat_in_resume_delay volts_lost_by_repeat_of_last volts_lost_by_many_sends_in_one_record
+    volts_lost_by_group_end_event volts_lost_by_group_end_command volts_lost_by_group_end_with_start
+    volts_lost_by_group_end_before_send volts_lost_by_disarm volts_lost_by_disarm_before_send
+    volts_lost_by_user_change volts_lost_by_user_change_before_send volts_lost_by_reset volts_lost_by_reset_before_send
+    volts_lost_by_opening volts_lost_by_refused_opening
+    volts_kept_over_restart volts_kept_over_resume volts_kept_over_tag volts_kept_over_arm volts_kept_over_same_user
+    volts_kept_over_reset_without_d0 volts_kept_over_retired volts_kept_over_command_asked volts_kept_over_command_refused
+    volts_kept_over_refused_group_end volts_kept_over_refused_reset volts_kept_over_refused_user volts_kept_over_refused_tick
+    volts_kept_over_send_of_other_channel volts_kept_over_reply_of_other_channel volts_kept_over_group_end_of_other_channel
+    volts_kept_over_disarm_of_other_channel volts_kept_over_reset_of_other_channel volts_kept_through_many_ticks
+    volts_asked_again volts_asked_between_replies volts_whatever_lent_code
+    volts_of_channel_1 volts_of_channel_2 volts_of_channel_3 volts_of_channel_4
+    volts_beside_other_readings volts_lost_beside_other_readings
+    volts_of_closed_board volts_refused_channel_0 volts_refused_channel_5 volts_refused_channel_255
+    volts_refused_with_low_bits_of_channel volts_refused_on_closed_board
 }
 
 #[derive(Clone)]

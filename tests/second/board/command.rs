@@ -2,7 +2,7 @@
 
 use super::life::Asked;
 use super::Board;
-use crate::channel::{CommandAsked, Waiting, Window, COMMAND, CRC, PAIRS, REPLIED};
+use crate::channel::{Channel, CommandAsked, Waiting, Window, COMMAND, CRC, PAIRS, REPLIED};
 use crate::frame::frame;
 use crate::tally::Did;
 
@@ -20,12 +20,14 @@ impl Board {
             2 => None,
             _ if !ch.armed || ch.function.is_some() => {
                 self.tally_refused_10(c, bits);
+                self.watch_volts_kept(c, Did::volts_kept_over_command_refused);
                 return Err(10);
             }
             // "FC D0 sends on the next tick. [...] D0 wins if both are set."
             _ => Some(self.now + 1),
         };
         self.tally_replaced(c, bits);
+        self.watch_volts_kept(c, Did::volts_kept_over_command_asked);
         let ch = &mut self.ch[c];
         let fields = [ch.w[COMMAND], ch.w[COMMAND + 1]];
         let asked = CommandAsked { bits, fields, user: self.user, active_readback: ch.active_readback() };
@@ -104,6 +106,11 @@ impl Board {
         self.tally_if(self.ch[c].w[REPLIED] < 6, did);
         self.ch[c].window = by;
     }
+}
+
+/// The replies that the last command frame took, while more may go to it.
+pub(super) fn replies_to_command(ch: &Channel) -> u16 {
+    if ch.window == Window::Open { ch.w[REPLIED] } else { 0 }
 }
 
 /// What the corpus reaches of it.

@@ -2,11 +2,13 @@
 //! these are.
 
 use super::tag::Dropped;
+use super::volts::Idled;
 use super::Board;
 use crate::channel::{hold, status_of, Channel, Function, Hold, Sent, Window};
 use crate::channel::{ACTIVE, COUNT, EE, ENABLE, END, GE, ID, RUN, START, SWITCH, TAG};
 use crate::frame::frame;
 use crate::tally::Did;
+use crate::volts::Reading;
 
 /// What one event or command asks of a channel.
 pub struct Asked {
@@ -77,6 +79,7 @@ impl Board {
         }
         self.watch_idling(c, Did::missing_idled_by_group_end, Did::missing_kept_over_group_end);
         self.drop_tag(c, Dropped::GroupEnd(asked));
+        self.watch_volts_idled(c, Idled::GroupEnd { by_command: asked.by_command, with_start: asked.start });
         self.end_function(c, Did::ee_by_group_end);
         self.command_at_group_end(c);
         self.write_end_word(c, readbacks);
@@ -136,6 +139,7 @@ impl Board {
             }
             ch.function = Some(f);
             self.watch_tag_kept(c, Did::tag_kept_over_restart);
+            self.watch_volts_kept(c, Did::volts_kept_over_restart);
         } else {
             ch.function = Some(f);
             self.tally.add(Did::run_latched);
@@ -158,6 +162,7 @@ impl Board {
                 let names = [Did::resume_1, Did::resume_2, Did::resume_3, Did::resume_4, Did::resume_vme];
                 self.tally.add(names[k as usize - 1]);
                 self.watch_tag_kept(c, Did::tag_kept_over_resume);
+                self.watch_volts_kept(c, Did::volts_kept_over_resume);
             }
             _ => {}
         }
@@ -255,6 +260,7 @@ impl Board {
         let is_next = self.due(c)?;
         let sending = self.sending(c, is_next);
         self.look_back(c, is_next);
+        self.watch_volts_send(c, sending);
         let (now, user) = (self.now, self.user);
         let index = self.ch[c].function.as_ref()?.index;
         let at = self.word_at(c, user, self.ch[c].active_setpoint(user), index);
@@ -270,7 +276,9 @@ impl Board {
         f.due = now + period;
         let held = f.held.map(|(_, h)| h);
         let id = ch.w[ID] as u8;
-        f.sent = Some(Sent { flags: flags(is_next && index == 0, held, user), is_tagged, id, replies: 0 });
+        let flags = flags(is_next && index == 0, held, user);
+        // document 02, request 7: until its replies are stored, its readings are lost
+        f.sent = Some(Sent { flags, is_tagged, id, replies: 0, readings: [Reading::Lost; 4] });
         // "The count takes every send, repeats too, and stays at FFFFFFh."
         ch.count = (ch.count + 1).min(0xFF_FFFF);
         // "the register's Frame ID, D15–D0 of the word, auxiliary 0"

@@ -34,9 +34,10 @@ impl Board {
 
     /// Refusals 1, 2, 7.
     pub fn reply(&mut self, c: u32, reply: u64, readbacks: &mut [u32]) -> Result<Reply, u8> {
-        self.readbacks_fit(readbacks).inspect_err(|_| self.tally.add(Did::reply_refused_1))?;
+        self.readbacks_fit(readbacks).inspect_err(|_| self.tally_reply_refused(c, reply))?;
         let c = Board::channel(c)?;
         if badly_framed(reply) {
+            self.watch_volts_refused(c, Did::volts_after_reply_refused_7);
             return Err(7);
         }
         let wrong = crc((reply >> 10) as u32) != (reply >> 2) as u8;
@@ -49,6 +50,7 @@ impl Board {
         if let Some(why) = self.unasked(c) {
             self.tally.add(why);
             self.tally_tag_unasked(c, why);
+            self.watch_volts_unasked(c, reply, wrong, why);
             if wrong {
                 self.tally.add(Did::crc_wrong_unasked);
             }
@@ -64,6 +66,14 @@ impl Board {
         Ok(answer)
     }
 
+    /// A reply that is refused 1, whatever its channel.
+    fn tally_reply_refused(&mut self, c: u32, reply: u64) {
+        self.tally.add(Did::reply_refused_1);
+        if let (Ok(c), false) = (Board::channel(c), badly_framed(reply)) {
+            self.watch_volts_refused(c, Did::volts_after_reply_refused_1);
+        }
+    }
+
     /// A reply that is asked for: kept, or lost. "If the buffer is full it is "lost", and counts
     /// among the six."
     fn store(&mut self, c: usize, reply: u64, wrong: bool, readbacks: &mut [u32]) -> Reply {
@@ -76,7 +86,11 @@ impl Board {
         }
         let sent = f.sent.as_mut().unwrap();
         sent.replies += 1;
+        if !is_full {
+            sent.take_reading(reply, wrong);
+        }
         let sent = *sent;
+        self.watch_volts_reply(c, reply, wrong, !is_full);
         if is_full {
             self.tally_lost(c, sent.replies);
             self.tally_tag_lost(sent, wrong);
@@ -108,6 +122,7 @@ impl Board {
         let length = self.retired_count(c);
         let part = &(if is_second { second } else { first })[..length];
         self.tally_part(c, part);
+        self.watch_volts_kept(c, Did::volts_kept_over_retired);
         Ok((is_second, length))
     }
 

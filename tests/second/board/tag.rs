@@ -5,15 +5,18 @@ mod sends;
 mod shown;
 mod words;
 
+pub(super) use self::reached::only;
 pub use self::reached::{Dropped, Tags};
-use self::sends::Sending;
+pub use self::sends::{Kind, Sending};
 use super::life::Asked;
 use super::Board;
+use crate::tally::Did;
 
 impl Board {
     /// "A tag event or Commands D3 on an armed channel marks the next setpoint send."
     pub(super) fn tag(&mut self, c: usize, asked: &Asked) {
         self.watch_tag(c, asked);
+        self.watch_volts_kept(c, Did::volts_kept_over_tag);
         if self.ch[c].armed {
             self.ch[c].is_tag_pending = true;
         }

@@ -6,6 +6,7 @@ use super::end_word::{end_word, fill};
 use super::missing::missing;
 use super::story::{delay, load, reply, ticks, word, Taste, BASE};
 use super::tag::tag;
+use super::volts::{ask, volts};
 use super::world::{Op, World};
 use crate::board::Peek;
 
@@ -23,6 +24,10 @@ impl Scene<'_> {
     pub fn at(&self) -> u32 {
         BASE * self.c
     }
+    /// The same scene with another channel.
+    pub fn of_channel(&self, world: &World, c: u32) -> Scene<'_> {
+        Scene { c, p: world.board().peek(c as usize - 1), ..*self }
+    }
     /// The channel as it has become.
     pub fn now(&self, world: &World) -> Peek {
         world.board().peek(self.c as usize - 1)
@@ -37,6 +42,9 @@ pub fn act(world: &mut World, d: &Dice, t: &Taste) {
     let s = Scene { d, t, c, p: world.board().peek(c as usize - 1), user: world.board().user };
     if d.chance(t.tags) {
         return tag(world, &s);
+    }
+    if world.is_script() && d.chance(t.volts) {
+        return volts(world, &s);
     }
     let choice = if !s.p.armed {
         d.weighed(&[50, 0, 8, 6, 4, 0, 8, 6, 10, 12, 16, 3, 2])
@@ -61,6 +69,9 @@ pub fn act(world: &mut World, d: &Dice, t: &Taste) {
         10 => command(world, &s),
         11 => missing(world, &s),
         _ => end_word(world, &s),
+    }
+    if world.is_script() && d.chance(15) {
+        ask(world, &s);
     }
 }
 
@@ -254,7 +265,7 @@ fn odd_record(d: &Dice, is_script: bool) -> [u8; 16] {
     let mut r = d.bytes();
     if is_script {
         // kinds past the list make no call
-        r[0] = 15 + d.below(241) as u8;
+        r[0] = 16 + d.below(240) as u8;
         return r;
     }
     r[0] = d.of(&[0, 1, 3, 4, 5, 5, 8, 9, d.below(256) as u8]);

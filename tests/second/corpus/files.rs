@@ -4,6 +4,7 @@ use super::crc::every_entry;
 use super::dice::Dice;
 use super::ramp::ramp_script;
 use super::story::{story, story_of_tags, BASE, DEPTHS_M, DEPTHS_N};
+use super::volts::volts_script;
 use super::world::{run_record, Op, World};
 use std::fs;
 use std::path::Path;
@@ -185,6 +186,8 @@ pub fn generate(dir: &Path, seed: u64, count: u32) -> std::io::Result<()> {
         if i % 10 == 0 {
             let d = Dice::new(seed ^ (i as u64) << 32 ^ 0x4C);
             fs::write(dir.join(format!("ramp-{i:04}.calls")), ramp_script(&d, i / 10))?;
+            let d = Dice::new(seed ^ (i as u64) << 32 ^ 0x56);
+            fs::write(dir.join(format!("volts-{i:04}.calls")), volts_script(&d, i / 10))?;
         }
     }
     Ok(())

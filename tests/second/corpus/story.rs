@@ -29,6 +29,8 @@ pub struct Taste {
     delays: u32,
     /// Acts around tags, in percent.
     pub tags: u32,
+    /// Acts around readings in volts, in percent.
+    pub volts: u32,
 }
 
 impl Taste {
@@ -51,6 +53,7 @@ impl Taste {
             fills: d.chance(25),
             delays: d.of(&[1, 12, 30, 60]),
             tags: d.of(&[0, 3, 6]),
+            volts: 3,
         }
     }
 
@@ -58,6 +61,12 @@ impl Taste {
     /// their replies are kept.
     fn of_tags(d: &Dice) -> Taste {
         Taste { quirks: 0, fills: false, tags: 85, clocks: &[3], ..Taste::new(d) }
+    }
+
+    /// Little but readings in volts, the same way, on several channels.
+    fn of_volts(d: &Dice) -> Taste {
+        let channels = d.of(&[&[1, 2, 3, 4][..], &[1, 2, 3, 4], &[1, 3], &[2, 4]]).to_vec();
+        Taste { quirks: 1, fills: false, tags: 2, volts: 85, clocks: &[3], channels, ..Taste::new(d) }
     }
 }
 
@@ -167,6 +176,10 @@ pub fn story_of_tags(world: &mut World, d: &Dice, acts: u32) {
     story_of(world, d, &Taste::of_tags(d), acts);
 }
 
+pub fn story_of_volts(world: &mut World, d: &Dice, acts: u32) {
+    story_of(world, d, &Taste::of_volts(d), acts);
+}
+
 fn story_of(world: &mut World, d: &Dice, t: &Taste, acts: u32) {
     world.put(Op::Write(0x22, d.of(&[1, 3, 7, 0xFFFF])), d);
     world.put(Op::Write(0x26, d.of(&[0xF0, 0xFFFF, 0x10, d.below(65_536) as u16])), d);
@@ -217,7 +230,7 @@ fn reopen(world: &mut World, d: &Dice) {
                 Op::User(2), Op::Level, Op::Retired { c, length: true, lent: 0 }, Op::Retired { c, length: true, lent: 6 },
                 Op::Retired { c, length: false, lent: 0 }, Op::Disarm(c), Op::Write(BASE * c + 0xFC, 1), Op::Write(BASE * c + 0xFC, 2),
                 Op::Write(BASE * c + 0xE0, 0x0315), Op::Read(BASE * c + 0xE0), Op::Read(BASE * c + 0x0C),
-                Op::Write(BASE * c + 8, 8), Op::Write(BASE * c + 0x2C, 0x101), Op::Read(BASE * c + 0x2C),
+                Op::Write(BASE * c + 8, 8), Op::Write(BASE * c + 0x2C, 0x101), Op::Read(BASE * c + 0x2C), Op::Volts { c, lent: 0 },
             ]);
             world.put(op, d);
         }

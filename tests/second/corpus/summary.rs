@@ -107,7 +107,8 @@ const OF_SCRIPTS: [&str; 22] = [
 ];
 
 /// Prints what was done, and answers what was not. What a request adds to the board (command frames, missing readbacks,
-/// the end word, tags) is asked of both kinds of files, which different programs read; ramps are of scripts alone.
+/// the end word, tags) is asked of both kinds of files, which different programs read; ramps and readings in volts, which
+/// no run file asks for, are of scripts alone.
 fn done(runs: &Reach, calls: &Reach) -> Vec<String> {
     let mut missing = Vec::new();
     for ((name, in_runs), in_calls) in DID.iter().zip(&runs.did.counts).zip(&calls.did.counts) {

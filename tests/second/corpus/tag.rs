@@ -106,7 +106,7 @@ fn before(world: &mut World, s: &Scene) {
 }
 
 /// A function of these words, each with data, on a channel that is then armed and idle.
-fn load(world: &mut World, s: &Scene, user: u32, words: &[u32]) {
+pub fn load(world: &mut World, s: &Scene, user: u32, words: &[u32]) {
     let d = s.d;
     let buffer = 1 + (s.now(world).active >> (user - 1) & 1) as u32;
     world.put(Op::User(user), d);
@@ -118,7 +118,7 @@ fn load(world: &mut World, s: &Scene, user: u32, words: &[u32]) {
 }
 
 /// Resume of the pause that the channel is in, often by a code that does nothing else, and some of the ticks after it.
-fn resume(world: &mut World, s: &Scene) {
+pub fn resume(world: &mut World, s: &Scene) {
     let (d, k) = (s.d, s.now(world).pause);
     match k {
         0 => {}

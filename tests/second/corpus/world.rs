@@ -21,6 +21,7 @@ pub enum Op {
     Open { n: u32, m: u32, setpoints: u32, readbacks: u32 },
     Poke { readbacks: bool, at: u32, word: u32 },
     Ramp { n: u32, count: u32, codes: u32, remainders: u32 },
+    Volts { c: u32, lent: u8 },
     /// A whole record as it stands.
     Raw([u8; 16]),
 }
@@ -50,7 +51,7 @@ fn as_run_record(op: Op, dice: &Dice) -> Option<[u8; 8]> {
         Op::Arm(c) => run_record(8, c, unused(), 1),
         Op::Disarm(c) => run_record(8, c, 0, 0),
         Op::Raw(r) => [r[0], r[1], r[2], r[3], r[4], r[5], r[6], r[7]],
-        Op::Retired { .. } | Op::Level | Op::Open { .. } | Op::Poke { .. } | Op::Ramp { .. } => return None,
+        Op::Retired { .. } | Op::Level | Op::Open { .. } | Op::Poke { .. } | Op::Ramp { .. } | Op::Volts { .. } => return None,
     })
 }
 
@@ -86,6 +87,7 @@ fn as_script_record(op: Op, dice: &Dice, spite: u32) -> [u8; 16] {
             let [c, lent, buffer, _] = any.to_le_bytes();
             script_record(14, c as u32, lent, buffer as u32, n, any << 16 | count & 0xFFFF, remainders << 16 | codes & 0xFFFF)
         }
+        Op::Volts { c, lent } => script_record(15, c, lent, 0, 0, 0, 0),
         Op::Raw(bytes) => bytes,
     }
 }

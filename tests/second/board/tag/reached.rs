@@ -98,7 +98,7 @@ fn rows_of_drop(by: &Dropped, is_idle: bool) -> Vec<(bool, Did)> {
     }
 }
 
-pub(super) fn only(rows: &[(bool, Did)]) -> impl Iterator<Item = Did> + '_ {
+pub(in crate::board) fn only(rows: &[(bool, Did)]) -> impl Iterator<Item = Did> + '_ {
     rows.iter().filter(|row| row.0).map(|row| row.1)
 }
 

@@ -26,7 +26,7 @@ pub struct Sending {
 }
 
 #[derive(Clone, Copy)]
-enum Kind {
+pub enum Kind {
     FirstWord,
     NextWord,
     WordAfterResume,
@@ -44,6 +44,12 @@ const ENDED: [Did; 6] = [
     Did::tag_ended_by_first_word, Did::tag_ended_by_next_word, Did::tag_ended_by_word_after_resume, Did::tag_ended_by_repeat_of_pause,
     Did::tag_ended_by_repeat_in_resume_delay, Did::tag_ended_by_repeat_of_last,
 ];
+
+impl Sending {
+    pub fn kind(self) -> Kind {
+        self.kind
+    }
+}
 
 fn kind(f: &Function, is_next: bool) -> Kind {
     match (f.held, is_next) {

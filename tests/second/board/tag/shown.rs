@@ -79,7 +79,9 @@ impl Board {
     pub(in crate::board) fn tally_event_refused(&mut self, code: u8) {
         self.tally.add(Did::event_refused_1);
         for c in 0..4 {
-            self.watch_tag_refused(c, Asked::by_event(code, &self.ch[c]));
+            let asked = Asked::by_event(code, &self.ch[c]);
+            self.watch_volts_over_refused(c, asked.group_end);
+            self.watch_tag_refused(c, asked);
         }
     }
 
@@ -89,8 +91,14 @@ impl Board {
         let c = (address / 0x800) as usize;
         match address % 0x800 {
             _ if !(1..=4).contains(&c) => {}
-            0x06 if value & 1 == 1 => self.watch_tag_kept(c - 1, Did::tag_kept_over_refused_drop_by_reset),
-            0x08 => self.watch_tag_refused(c - 1, Asked::by_command(value)),
+            0x06 if value & 1 == 1 => {
+                self.watch_tag_kept(c - 1, Did::tag_kept_over_refused_drop_by_reset);
+                self.watch_volts_kept(c - 1, Did::volts_kept_over_refused_reset);
+            }
+            0x08 => {
+                self.watch_volts_over_refused(c - 1, value >> 2 & 1 == 1);
+                self.watch_tag_refused(c - 1, Asked::by_command(value));
+            }
             _ => {}
         }
     }
