@@ -7,10 +7,7 @@ use lib.ListN.{length}
 use borrow.Author.Tests.{ne-eqb}
 use Rattle.adc_words.specs.declared.AdcWord.{AdcWord}
 use Rattle.adc_words.specs.declared.AdcWords.{AdcWords}
-use Rattle.adc_words.specs.Positions.{allLost, withReply, wordsOf}
-
-pub none-yet : wordsOf [] ≡ allLost
-none-yet = refl
+use Rattle.adc_words.specs.Positions.{withReply, wordsOf}
 
 -- past the six no reply has a place
 past-six : (w : AdcWords) (k : ℕ) (a : AdcWord) → 6 ≤ k → withReply w k a ≡ w

@@ -20,7 +20,7 @@ pub struct AdcWords {
 }
 
 // What becomes of a reply, stored or not, its CRC right or not.
-pub fn became(stored: bool, right: bool, data: u16) -> AdcWord
+pub fn adc_word(stored: bool, right: bool, data: u16) -> AdcWord
     ensures { λ r. ⌜ r ≡ adcWord stored right «data» ⌝ }
 {
     if stored {

@@ -19,5 +19,6 @@ pub fn last_readings(b: Board, number: u32) -> Measurement
     if channel::is_outside(1, 4, number) {
         return Measurement::Refused(Refusal::OutOfRange);
     }
-    Measurement::Readings(channel_readings::last_readings(b.channel(number as u8)))
+    let channel_number = number as u8;
+    Measurement::Readings(channel_readings::last_readings(b.channel(channel_number)))
 }

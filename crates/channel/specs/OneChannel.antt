@@ -19,7 +19,7 @@ use Rattle.channel_core.specs.Answers as ans
 use Rattle.channel_core.specs.State.{opened}
 use Rattle.channel_core.specs.Behaviour.{userChanged, eventOf, eventWords, tickOf, tickAnswer}
 use Rattle.channel_replies.specs.Replying.{replyAnswer, replyOf, replyWords}
-use Rattle.channel_readings.specs.Reading.{readingsAnswer}
+use Rattle.channel_readings.specs.Measuring.{readingsAnswer}
 use Rattle.channel_registers.specs.Calls.{registerRefusal, registerEffect, registerWords, readEffect, readValue}
 use Rattle.channel.specs.Calls.{outside, setpointRefusal, setpointWords, armedOf, disarmedOf, retiredRefusal, mainBit, mainTaken}
 

@@ -4,7 +4,7 @@ use mathlib.Core.Bool.{Bool, true, false, cond}
 use mathlib.Core.List.{List}
 use lib.Dec.{eqb}
 use Rattle.refusal.specs.Refusals.{numberOf}
-use Rattle.channel_core.specs.Results.{Result, Reading}
+use Rattle.channel_core.specs.Results.{Result, AdcReading}
 use Rattle.channel_core.specs.Results as result
 use Rattle.channel_core.specs.declared.Line.{Line}
 use Rattle.channel_core.specs.declared.Line.the-variants as line
@@ -48,7 +48,7 @@ abbrev pub partLength : ℕ → Answer
 partLength k = other (result.partLength k)
 
 -- the four readings of a send
-abbrev pub readings : (third fourth fifth sixth : Reading) → Answer
+abbrev pub readings : (third fourth fifth sixth : AdcReading) → Answer
 readings third fourth fifth sixth = other (result.readings third fourth fifth sixth)
 
 -- refused with this number, or not

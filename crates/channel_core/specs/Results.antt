@@ -4,10 +4,10 @@ use mathlib.Core.Bool.{Bool}
 use lib.Ieee.{Float}
 
 -- document 02, card 7: "Each of the four readings is a voltage, or lost, or damaged by a wrong CRC."
-pub data Reading : Type 0 where
-  volts : Float → Reading
-  lost : Reading
-  damaged : Reading
+pub data AdcReading : Type 0 where
+  volts : Float → AdcReading
+  lost : AdcReading
+  damaged : AdcReading
 
 pub data Result : Type 0 where
   -- a write, arming, an event, a user change
@@ -21,4 +21,4 @@ pub data Result : Type 0 where
   -- the length of a part
   partLength : ℕ → Result
   -- the four readings of a send, by its third to sixth replies
-  readings : (third fourth fifth sixth : Reading) → Result
+  readings : (third fourth fifth sixth : AdcReading) → Result

@@ -8,11 +8,11 @@ use Rattle.channel_readings.specs.declared.Reading.the-variants as readi
 use Rattle.channel_readings.specs.declared.Readings.{Readings}
 
 -- "Each of the four readings is a voltage, or lost, or damaged by a wrong CRC."
-abbrev pub readingOf : Reading → result.Reading
-readingOf (reading.Volts x) = result.volts x
-readingOf reading.Lost = result.lost
-readingOf reading.Damaged = result.damaged
+abbrev pub adcReadingOf : Reading → result.AdcReading
+adcReadingOf (reading.Volts x) = result.volts x
+adcReadingOf reading.Lost = result.lost
+adcReadingOf reading.Damaged = result.damaged
 
 -- the answer of the call
 abbrev pub readingsOf : Readings → Answer
-readingsOf r = ans.readings (readingOf (r .third)) (readingOf (r .fourth)) (readingOf (r .fifth)) (readingOf (r .sixth))
+readingsOf r = ans.readings (adcReadingOf (r .third)) (adcReadingOf (r .fourth)) (adcReadingOf (r .fifth)) (adcReadingOf (r .sixth))

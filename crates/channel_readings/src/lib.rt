@@ -2,8 +2,8 @@
 use adc_words::AdcWord;
 use channel_core::Channel;
 ghost use mathlib.Core.Path.{_≡_};
-ghost use Rattle.channel_readings.specs.Answers.{readingOf, readingsOf};
-ghost use Rattle.channel_readings.specs.Reading.{measured, readingsAnswer};
+ghost use Rattle.channel_readings.specs.Answers.{adcReadingOf, readingsOf};
+ghost use Rattle.channel_readings.specs.Measuring.{measured, readingsAnswer};
 
 pub enum Reading {
     Volts(f64),
@@ -21,16 +21,16 @@ pub struct Readings {
 }
 
 fn measured(word: AdcWord) -> Reading
-    ensures { λ r. ⌜ readingOf r ≡ measured word ⌝ }
+    ensures { λ r. ⌜ adcReadingOf r ≡ measured word ⌝ }
 {
     match word {
         AdcWord::Lost => Reading::Lost,
         AdcWord::Damaged => Reading::Damaged,
-        AdcWord::Data(data) => Reading::Volts(voltage::volts(data)),
+        AdcWord::Data(data) => Reading::Volts(codes::volts(data)),
     }
 }
 
-// The call. The channel stays as it is.
+// Those of the last send; the channel stays as it is.
 pub fn last_readings(c: Channel) -> Readings
     ensures { λ r. ⌜ readingsOf r ≡ readingsAnswer c ⌝ }
 {

@@ -77,7 +77,7 @@ fn receive(
             receipt: Receipt::Unsolicited,
         },
         Disposition::Lost => Received {
-            channel: counted(c, right, adc_words::became(false, right, data)),
+            channel: counted(c, right, adc_words::adc_word(false, right, data)),
             receipt: Receipt::Lost,
         },
         Disposition::Kept => {
@@ -86,7 +86,7 @@ fn receive(
             let readbacks = c.readbacks;
             let last = sequencer.last;
             let word = readback::stored_word(last, user, !right, id, data);
-            let mut next = counted(c, right, adc_words::became(true, right, data));
+            let mut next = counted(c, right, adc_words::adc_word(true, right, data));
             next.readbacks = readbacks.keep(words, registers.readback_second_active(), m, word);
             Received {
                 channel: next,

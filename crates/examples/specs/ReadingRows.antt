@@ -7,7 +7,7 @@ use lib.IntN.{pos, negsuc}
 use lib.Ieee.{fin}
 use lib.ListN.{replicate}
 use Prim.Native.Nat.{ℕ, _*_}
-use Rattle.channel_core.specs.Results.{Reading, volts, lost, damaged}
+use Rattle.channel_core.specs.Results.{AdcReading, volts, lost, damaged}
 use Rattle.channel_core.specs.Answers.{Answer, readings}
 use Rattle.channel.specs.OneChannel.{ChannelCall, writeSetpoint, arm, disarm, reply, query, tick, event, changeUser, response}
 use Rattle.channel.specs.OneChannel as to
@@ -33,18 +33,18 @@ highest = 0x1fffc02d7
 abbrev pub minusOne : ℕ
 minusOne = 0x3fffc0157
 
--- −10 V, 0 V, 9.99969482421875 V = 163,835 / 2 ^ 14, and −10 / 32,768 V
-abbrev pub minusTenVolts : Reading
+-- −10 V, 0 V, 9.99969482421875 V = 163,835 / 2 ^ 14, and −10 / 32,768 V, a step below 0
+abbrev pub minusTenVolts : AdcReading
 minusTenVolts = volts (fin true 5 (pos 1))
 
-abbrev pub noVolts : Reading
+abbrev pub noVolts : AdcReading
 noVolts = volts (fin false 0 (pos 0))
 
-abbrev pub mostVolts : Reading
+abbrev pub mostVolts : AdcReading
 mostVolts = volts (fin false 163835 (negsuc 13))
 
-abbrev pub leastVolts : Reading
-leastVolts = volts (fin true 5 (negsuc 13))
+abbrev pub stepDown : AdcReading
+stepDown = volts (fin true 5 (negsuc 13))
 
 abbrev pub allLost : Answer
 allLost = readings lost lost lost lost
@@ -65,7 +65,7 @@ abbrev pub six : List ℕ
 six = nought ∷ nought ∷ lowest ∷ nought ∷ highest ∷ minusOne ∷ []
 
 abbrev pub allFour : Answer
-allFour = readings minusTenVolts noVolts mostVolts leastVolts
+allFour = readings minusTenVolts noVolts mostVolts stepDown
 
 pub record ReadingRows : Type 0 where
   -- "with none, all four are lost": opened, armed, started; and with no reply after a send
@@ -86,17 +86,19 @@ pub record ReadingRows : Type 0 where
   pub full : after 5 six [] ≡ readings minusTenVolts noVolts lost lost
   pub full-wrong : after 5 (nought ∷ nought ∷ lowest ∷ wrongNought ∷ wrongLowest ∷ wrongNought ∷ []) [] ≡ readings minusTenVolts damaged lost lost
   pub full-before : after 2 (nought ∷ nought ∷ wrongLowest ∷ nought ∷ highest ∷ []) [] ≡ allLost
-  -- lost replies "keep" their positions: after six of them a seventh is no ADC word of the send either
-  pub full-six : after 3 (six ++ (lowest ∷ [])) [] ≡ allLost
+  -- lost replies count among the six: a seventh is unasked
+  pub full-seventh : after 4 (six ++ (lowest ∷ [])) [] ≡ readings minusTenVolts lost lost lost
   -- a bad frame, and a reply that is refused 1, take no position
   pub bad-framing : after 16 (nought ∷ nought ∷ 2 ∷ lowest ∷ []) [] ≡ readings minusTenVolts lost lost lost
   pub refused : answers 16 (sent 16 ++ (replies 16 (nought ∷ nought ∷ []) ++ (reply 127 highest ∷ reply 128 lowest ∷ []))) ≡ readings minusTenVolts lost lost lost
-  -- the next send has replies of its own, and so has a repeat; between sends they stay
+  -- the next send has replies of its own, the first of a last word and its repeats too; between sends they stay
   pub between : after 16 six (replicate 9 (tick 128)) ≡ allFour
   pub next-send : after 16 six (replicate 10 (tick 128)) ≡ allLost
   pub next-replies : after 16 six (replicate 10 (tick 128) ++ replies 16 (nought ∷ nought ∷ highest ∷ [])) ≡ readings mostVolts lost lost lost
-  pub repeated : after 16 [] (replicate 10 (tick 128) ++ (replies 16 six ++ replicate 9 (tick 128))) ≡ allFour
-  pub repeat-anew : after 16 [] (replicate 10 (tick 128) ++ (replies 16 six ++ replicate 10 (tick 128))) ≡ allLost
+  pub last-word : after 16 [] (replicate 10 (tick 128) ++ (replies 16 six ++ replicate 9 (tick 128))) ≡ allFour
+  pub first-repeat : after 16 [] (replicate 10 (tick 128) ++ (replies 16 six ++ replicate 10 (tick 128))) ≡ allLost
+  pub of-a-repeat : after 16 [] (replicate 20 (tick 128) ++ (replies 16 six ++ replicate 9 (tick 128))) ≡ allFour
+  pub next-repeat : after 16 [] (replicate 20 (tick 128) ++ (replies 16 six ++ replicate 10 (tick 128))) ≡ allLost
   -- a restart keeps them until its first send, with what still comes; arming again and the same user change nothing
   pub restarted : after 16 six (write 16 0x08 1 ∷ replicate 9 (tick 128)) ≡ allFour
   pub restart-more : after 16 (nought ∷ nought ∷ []) (write 16 0x08 1 ∷ reply 128 lowest ∷ []) ≡ readings minusTenVolts lost lost lost

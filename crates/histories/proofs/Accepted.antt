@@ -17,7 +17,7 @@ use Rattle.channel_core.specs.declared.Channel.{Channel}
 use Rattle.channel_core.specs.Answers.{Answer, isRefusal, isFrame, isReceived}
 use Rattle.channel_core.specs.Answers as ans
 use Rattle.channel_core.specs.Behaviour.{tickLine, playedOf, tickAnswer}
-use Rattle.channel_readings.specs.Reading.{readingsAnswer}
+use Rattle.channel_readings.specs.Measuring.{readingsAnswer}
 use Rattle.channel_replies.specs.Replying.{dispositionNow, receiptAnswer, replyAnswerAs, replyAnswer}
 use Rattle.channel.specs.OneChannel.{Query, ChannelCall, OneChannel, then, lengthRefusal, framingRefusal, refusalOf, queryAnswer, mainAnswer, answer}
 use Rattle.channel.specs.OneChannel as call

@@ -46,19 +46,21 @@ observed a due takes w =
     cond (isFrame a && not due) (record { sent = true; id = sentId a; replies = 0 })
     (cond (isReceived a && not takes) (record { sent = w .sent; id = w .id; replies = w .replies + 1 }) w)
 
--- and to the ADC words of the last send, after so many replies, `word` being what a reply is worth if it is stored
+-- and to the ADC words of the last send, after so many replies, `word` being what becomes of a reply that is stored
 abbrev pub observedAdc : Answer → (due takes : Bool) → AdcWord → (before : ℕ) → AdcWords → AdcWords
 observedAdc a due takes word before w =
     cond (isFrame a && not due) allLost (cond (isReceived a && not takes) (withReply w before (cond (isKept a) word adc.Lost)) w)
 
 -- from s to t by a call with this answer, `id` being the Frame ID register, a command frame being due or not and taking a reply or not; it is a Group
--- End or not, a reset or not, idles otherwise or not, and reads the count of missing readbacks or not; a reply that it brings is worth `word` if it is stored
+-- End or not, a reset or not, idles otherwise or not, and reads the count of missing readbacks or not; `word` is what becomes of a reply that it
+-- brings, if that is stored
 pub record Steps (n id : ℕ) (s : Sequencer) (a : Answer) (due takes ends again stops reads : Bool) (word : AdcWord) (t : Sequencer) : Type 0 where
   pub count-step : t .count ≡ cond (ends || again) 0 (cond (isFrame a && not due) (counted (s .count)) (s .count))
   pub missing-step : t .missing ≡ cond (again || reads) 0 (cond (isFrame a && not due) (missingWith (s .missing) (shortfall (s .last))) (s .missing))
   pub quiet-step : Quiet s → Quiet t
   pub window-step : id < 256 → windowOf t ≡ cond (ends || (again || stops)) closed (observed a due takes (windowOf s))
   pub replies-step : s .last .replies ≤ 6 → t .last .replies ≤ 6
+  pub received-step : (isReceived a && not takes) ≡ true → s .last .sent ≡ true
   pub adc-step : t .last .adc ≡ cond (ends || (again || stops)) allLost (observedAdc a due takes word (s .last .replies) (s .last .adc))
   pub index-step : 1 ≤ n → s .index < n → t .index < n
   pub countdown-step : Countdown s → Countdown t
@@ -69,6 +71,9 @@ Plain a = (isFrame a ≡ false) × (isReceived a ≡ false)
 
 observed-plain : (a : Answer) (due takes : Bool) (w : Window) → Plain a → observed a due takes w ≡ w
 observed-plain a due takes w h = rw (h .0, h .1)
+
+unreceived : (a : Answer) (takes : Bool) → Plain a → (isReceived a && not takes) ≡ false
+unreceived a takes h = rw (h .1)
 
 adc-plain : (a : Answer) (due takes : Bool) (word : AdcWord) (before : ℕ) (w : AdcWords) → Plain a → observedAdc a due takes word before w ≡ w
 adc-plain a due takes word before w h = rw (h .0, h .1)
@@ -86,6 +91,7 @@ module _ {id : ℕ} {due takes : Bool} {word : AdcWord} where
         quiet-step = λ q e. k .last-kept;
         window-step = λ fits. ap sendWindow (k .last-kept);
         replies-step = λ e. omega (arith, ap (λ (l : LastSend). l .replies) (k .last-kept));
+        received-step = λ e. clash (sym (unreceived a takes h) ∙ e);
         adc-step = ap (λ (l : LastSend). l .adc) (k .last-kept);
         index-step = λ e i. k .index-kept n e e;
         countdown-step = λ p. k .countdown-kept tt;
@@ -98,6 +104,7 @@ module _ {id : ℕ} {due takes : Bool} {word : AdcWord} where
         quiet-step = λ q e. k .last-kept ∙ q (k .idle-kept e);
         window-step = λ fits. ap sendWindow (k .last-kept) ∙ sym (observed-plain a due takes (windowOf (c .sequencer)) h);
         replies-step = λ e. omega (arith, ap (λ (l : LastSend). l .replies) (k .last-kept));
+        received-step = λ e. clash (sym (unreceived a takes h) ∙ e);
         adc-step =
             ap (λ (l : LastSend). l .adc) (k .last-kept)
             ∙ sym (adc-plain a due takes word (c .sequencer .last .replies) (c .sequencer .last .adc) h);
@@ -136,6 +143,7 @@ module _ {id : ℕ} {due takes : Bool} {word : AdcWord} where
         quiet-step = λ q e. refl;
         window-step = λ fits. sym (ap (λ (b : Bool). cond b closed (windowOf s)) (or-not-self again));
         replies-step = λ e. omega arith;
+        received-step = λ e. clash e;
         adc-step = sym (ap (λ (b : Bool). cond b allLost (s .last .adc)) (or-not-self again));
         index-step = λ e i. e;
         countdown-step = λ p. tt;
@@ -152,6 +160,7 @@ module _ {id : ℕ} {due takes : Bool} {word : AdcWord} where
         quiet-step = same .quiet-step;
         window-step = same .window-step;
         replies-step = same .replies-step;
+        received-step = same .received-step;
         adc-step = same .adc-step;
         index-step = same .index-step;
         countdown-step = same .countdown-step;
@@ -216,6 +225,7 @@ tick-steps n s f takes id due p some apart =
       quiet-step = a .stays-quiet;
       window-step = λ fits. a .window ∙ window-frame id f x (windowOf s) fits ∙ sym (rw (sent, line-unreceived id f x));
       replies-step = λ e. omega (arith, ap (λ (w : Window). w .replies) (a .window), window-few id x (windowOf s) e);
+      received-step = λ e. clash (sym (ap (λ (b : Bool). b && not takes) (line-unreceived id f x)) ∙ e);
       adc-step = c .last-adc ∙ adc-sent x (s .last .adc) ∙ sym (rw (sent, line-unreceived id f x));
       index-step = λ e. a .index-due;
       countdown-step = a .countdown some;
@@ -243,6 +253,7 @@ answered-steps n s a due takes word plain received ours e =
       quiet-step = λ q f. clash (sym (d .0) ∙ f);
       window-step = λ fits. rw (plain, received, ours, d .1);
       replies-step = λ f. rw (d .1) (omega (arith, ltb-true (s .last .replies) 6 (d .1)));
+      received-step = λ f. d .2;
       adc-step = rw (plain, received, ours);
       index-step = λ f i. i;
       countdown-step = λ p. p;
@@ -272,6 +283,7 @@ command-steps n c due takes theirs =
       quiet-step = λ q. q;
       window-step = λ fits. rw theirs;
       replies-step = λ e. e;
+      received-step = λ e. clash (sym (ap not theirs) ∙ e);
       adc-step = rw theirs;
       index-step = λ e i. i;
       countdown-step = λ p. p;

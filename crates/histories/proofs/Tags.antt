@@ -5,36 +5,31 @@ use mathlib.Core.Path.{_≡_, refl, sym, _∙_, ap, subst}
 use mathlib.Core.Bool.{Bool, true, false, cond, not, _&&_}
 use mathlib.Core.List.{List, [], _∷_, map}
 use native.Mathlib.Omega.{arith}
-use lib.Dec.{eqb, ltb}
 use lib.ListN.{length, getD, length-map}
 use borrow.Table.Elements.{map-app}
-use Rattle.frame.specs.Frames.{Reading, read, framed, idOf, dataOf, auxOf, crcIn, crcRight}
+use Rattle.frame.specs.Frames.{read, framed, idOf, dataOf, auxOf, crcIn, crcRight}
 use Rattle.frame.specs.Frames as frame
 use Rattle.status.specs.Bits.{bitAt}
 use Rattle.adc_words.specs.declared.AdcWord.{AdcWord}
-use Rattle.sequencer.specs.Playing.{isIdle}
-use Rattle.readback.specs.declared.Disposition.the-variants as disposition
-use Rattle.readback.specs.Storing.{isDue, dispositionOf, capacity}
 use Rattle.readback.proofs.Laws.{stored-tag}
 use Rattle.command_frames.specs.Commanding.{takes}
-use Rattle.channel_core.specs.declared.Channel.{Channel}
 use Rattle.channel_core.specs.State as state
+use Rattle.channel_core.specs.Answers.{Answer, isReceived}
 use Rattle.channel_core.specs.Answers as ans
-use Rattle.channel_replies.specs.Replying.{dispositionNow, receiptAnswer, replyAnswerAs, replyAnswer}
-use Rattle.channel.specs.OneChannel.{ChannelCall, OneChannel, oneChannel, refusalOf, answer, transition, response, transitions}
-use Rattle.channel.specs.OneChannel as call
+use Rattle.channel.specs.OneChannel.{ChannelCall, OneChannel, oneChannel, transition, response, transitions}
 use Rattle.channel.proofs.Cases.{clash, by-test}
 use Rattle.histories.specs.TagChanges.{Tags, openedTags}
 use Rattle.histories.specs.History.{isKept, Entry, Told, told, replyWord, asks, resets, endsGroup}
 use Rattle.histories.specs.Keeping.{Groups, nothingKept, switched, keptWith, groupsAfter, storedBy, keptAfter, keptSince, keptOver}
 use Rattle.histories.specs.Tags.{tagsAfter, tagsSince, TagsTold, marksSince, marksOver, marksIn, MarksKept, MarksRetired}
+use Rattle.histories.proofs.Apart.{ApartIn}
 use Rattle.histories.proofs.Brought.{brought}
 use Rattle.histories.proofs.Buffered.{toldAt}
+use Rattle.histories.proofs.Calls.{steps}
 use Rattle.histories.proofs.Commands.{toldFrom, told-next}
 use Rattle.histories.proofs.EventRegisters.{reads-event}
 use Rattle.histories.proofs.Keeping.{retires-kept}
 use Rattle.histories.proofs.Ranges.{Ordered, ordered-opened, ordered-step}
-use Rattle.histories.proofs.Steps.{due-facts}
 use Rattle.histories.proofs.Tagged.{Held, held-step}
 
 -- ---- What is told
@@ -82,54 +77,27 @@ marked-reply o f = go (framed f)
         (omega arith) (omega arith))
     go false = refl
 
--- a reply that is kept, and not for a command frame, finds a send since idle
-disposed-sent : (c : Channel) (m : ℕ) → isKept (receiptAnswer (dispositionNow c m)) ≡ true → c .sequencer .last .sent ≡ true
-unfolding dispositionNow dispositionOf
-disposed-sent c m = go (isDue (isIdle (c .sequencer .stage)) (c .sequencer .last)) (ltb (c .readbacks .stored) (capacity m)) refl
-  where
-    go : (due space : Bool) → isDue (isIdle (c .sequencer .stage)) (c .sequencer .last) ≡ due
-        → isKept (receiptAnswer (cond due (cond space disposition.Kept disposition.Lost) disposition.Unsolicited)) ≡ true
-        → c .sequencer .last .sent ≡ true
-    go true space e k = due-facts (isIdle (c .sequencer .stage)) (c .sequencer .last) e .2
-    go false space e k = clash k
-
-reply-sent : (o : OneChannel) (lent f : ℕ) → (isKept (response o (call.reply lent f)) && not (takes (o .channel .commands))) ≡ true
-    → o .channel .sequencer .last .sent ≡ true
-unfolding response answer replyAnswer
-reply-sent o lent f = go (eqb (refusalOf o (call.reply lent f)) 0) (read f)
-  where
-    c : Channel
-    c = o .channel
-
-    kept : (b : Bool) → (b && true) ≡ true → b ≡ true
-    kept true e = refl
-    kept false e = clash e
-
-    fields : (taken : Bool) → (isKept (cond taken ans.kept (receiptAnswer (dispositionNow c (o .m)))) && not taken) ≡ true → c .sequencer .last .sent ≡ true
-    fields true e = clash e
-    fields false e = disposed-sent c (o .m) (kept (isKept (receiptAnswer (dispositionNow c (o .m)))) e)
-
-    go : (passed : Bool) (r : Reading)
-        → (isKept (cond passed (replyAnswerAs r c (o .m)) (ans.refused (refusalOf o (call.reply lent f)))) && not (takes (c .commands))) ≡ true
-        → c .sequencer .last .sent ≡ true
-    go false r e = clash e
-    go true (frame.refused k) e = clash e
-    go true (frame.fields id word aux crc) e = fields (takes (c .commands)) e
+kept-received : (a : Answer) (ours : Bool) → (isKept a && ours) ≡ true → (isReceived a && ours) ≡ true
+kept-received (ans.refused k) ours e = clash e
+kept-received (ans.value v) ours e = clash e
+kept-received (ans.frame f) ours e = clash e
+kept-received ans.kept ours e = e
+kept-received ans.lost ours e = clash e
+kept-received (ans.part s) ours e = clash e
+kept-received (ans.other r) ours e = clash e
 
 -- what a call stores has the mark that is told
-marked-asked : (o : OneChannel) (k : ChannelCall) (g : Tags) → Held (o .channel) g
+marked-asked : (o : OneChannel) (k : ChannelCall) (g : Tags) → ApartIn (o .channel) → Held (o .channel) g
     → (isKept (response o k) && not (takes (o .channel .commands))) ≡ true → Marked (g .tagged) (asks o k .word)
-marked-asked o k g h e =
+marked-asked o k g p h e =
+    let sent = steps o k p .received-step (kept-received (response o k) (not (takes (o .channel .commands))) e) in
     brought (λ (words : List ℕ) (a : AdcWord). Marked (g .tagged) words) o k
-    (λ lent f is.
-    subst (λ (mark : Bool). Marked mark (replyWord o (read f)))
-    (h .tagged (reply-sent o lent f (subst (λ (x : ChannelCall). (isKept (response o x) && not (takes (o .channel .commands))) ≡ true) is e)))
-    (marked-reply o f))
+    (λ lent f is. subst (λ (mark : Bool). Marked mark (replyWord o (read f))) (h .tagged sent) (marked-reply o f))
     refl
 
-marked-stored : (o : OneChannel) (k : ChannelCall) (g : Tags) → Held (o .channel) g → Marked (g .tagged) (storedBy (toldAt o k))
-marked-stored o k g h =
-    by-test (Marked (g .tagged)) (isKept (response o k) && not (takes (o .channel .commands))) (λ e. marked-asked o k g h e) (λ e. refl)
+marked-stored : (o : OneChannel) (k : ChannelCall) (g : Tags) → ApartIn (o .channel) → Held (o .channel) g → Marked (g .tagged) (storedBy (toldAt o k))
+marked-stored o k g p h =
+    by-test (Marked (g .tagged)) (isKept (response o k) && not (takes (o .channel .commands))) (λ e. marked-asked o k g p h e) (λ e. refl)
 
 abbrev marksOf : Groups ℕ → Groups Bool
 marksOf g = record { current = marksIn (g .current); retired = marksIn (g .retired) }
@@ -156,7 +124,7 @@ marks-from o (k ∷ ks) g kept a h =
     ap (λ (ts : List Told). marksOf (keptSince kept ts)) next
     ∙ marks-from x ks (tagsAfter g t) (keptAfter kept t) (ordered-step o k a) (held-step o k g (a .apart) h)
     ∙ ap (λ (marks : Groups Bool). marksSince (tagsAfter g t) marks (toldFrom x ks))
-    (marks-after kept (storedBy t) (t .entry) ∙ ap (λ (l : List Bool). groupsAfter (marksOf kept) l (t .entry)) (marked-stored o k g h))
+    (marks-after kept (storedBy t) (t .entry) ∙ ap (λ (l : List Bool). groupsAfter (marksOf kept) l (t .entry)) (marked-stored o k g (a .apart) h))
     ∙ ap (marksSince g (marksOf kept)) (sym next)
 
 marks-are : (n m : ℕ) (setpoints readbacks : List ℕ) (ks : List ChannelCall)

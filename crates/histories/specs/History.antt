@@ -1,9 +1,9 @@
 -- Document 01, 'A channel's life', over what calls ANSWERED. A history: what a channel by itself was called with, in which state, and what it
 -- answered. Laws over histories are stated with these.
 -- Document 02, card 1: which of the frames are command frames, and which replies go to E4–FA, told by calls and answers. Card 2: the Frame ID that a
--- frame carries, read from the frame, and which register a call reads. Card 6: what a call makes of tags (specs/TagChanges). Card 7: what a reply is worth as
--- an ADC word, by its own frame. Of the state before a call only the code of the Group End event (which `TagsTold`, specs/Tags, has told by writes), the current user, and what a stored word says of the last send
--- are looked at.
+-- frame carries, read from the frame, and which register a call reads. Card 6: what a call makes of tags (specs/TagChanges). Card 7: what becomes of a
+-- stored reply as an ADC word, by its own frame. Of the state before a call only the code of the Group End event (which `TagsTold`, specs/Tags, has told by
+-- writes), the current user, and what a stored word says of the last send are looked at.
 use Prim.Native.Nat.{ℕ, _+_}
 use mathlib.Core.Bool.{Bool, true, false, cond, not, _&&_, _||_}
 use mathlib.Core.List.{List, [], _∷_}
@@ -14,7 +14,6 @@ use Rattle.status.specs.Bits.{bitAt}
 use Rattle.registers.specs.Map.{triggersOf, groupEndEvent}
 use Rattle.adc_words.specs.declared.AdcWord.{AdcWord}
 use Rattle.adc_words.specs.declared.AdcWord.the-variants as adc
-use Rattle.adc_words.specs.Positions.{adcWord}
 use Rattle.readback.specs.Storing.{storedWord}
 use Rattle.command_frames.specs.declared.CommandFrames.{CommandFrames}
 use Rattle.command_frames.specs.Commanding.{isDue, takes, received}
@@ -45,10 +44,10 @@ abbrev pub replyWord : OneChannel → Reading → List ℕ
 replyWord o (frame.refused k) = []
 replyWord o (frame.fields id word aux crc) = storedWord (o .channel .sequencer .last) (o .user) (not (crcRight id word aux crc)) id word ∷ []
 
--- what a reply is worth as an ADC word if it is stored, by the data and the CRC of its own frame
+-- what becomes of a reply that is stored, as an ADC word: its data, or "damaged by a wrong CRC" of its own frame; said here anew, without the bench's `adcWord`
 abbrev pub adcIn : Reading → AdcWord
 adcIn (frame.refused k) = adc.Lost
-adcIn (frame.fields id word aux crc) = adcWord true (crcRight id word aux crc) word
+adcIn (frame.fields id word aux crc) = cond (crcRight id word aux crc) (adc.Data word) adc.Damaged
 
 -- a reply that was answered kept
 abbrev pub isKept : Answer → Bool
@@ -92,7 +91,7 @@ pub record Asks : Type 0 where
   pub idle : Bool
   -- the word that a reply brings
   pub word : List ℕ
-  -- what that reply is worth as an ADC word, if it is stored; lost where it brings none
+  -- what becomes of that reply as an ADC word, if it is stored; lost where the call brings none
   pub adc : AdcWord
   -- a read of the channel's register at this offset
   pub reads : ℕ → Bool

@@ -1,22 +1,25 @@
--- Document 02, card 7: of which reply each reading tells, and what it says, over any history. Told by calls and what they answered: a setpoint send is a tick
--- that answered a frame, and not a command frame; what idles a channel is a call; a reply's position counts those answered kept or lost, but for those to
--- E4–FA; and what it is worth goes by its own answer and the data and CRC of its own frame.
+-- Document 02, card 7: of which reply each reading tells, and what it says, over any history. Told, as in specs/History, by calls and what they answered: a
+-- setpoint send is a tick that answered a frame, and not a command frame; a reply's position counts those answered kept or lost, but for those to E4–FA; what
+-- becomes of it goes by its own answer and by the data and CRC of its own frame. What idles a channel is a call; which events and user changes do goes by the
+-- code of the Group End event and the current user, as there.
 use Prim.Native.Nat.{ℕ, _≤_}
 use mathlib.Core.Path.{_≡_}
-use mathlib.Core.Bool.{cond}
+use mathlib.Core.Bool.{false, cond}
 use mathlib.Core.List.{List, [], _∷_, _++_}
 use lib.IntN.{pos, _*ℤ_}
 use lib.Ieee.{Float}
-use lib.ListN.{length, getD}
-use Rattle.voltage.specs.Voltage.{codeOf, Is}
+use lib.ListN.{getD}
+use Rattle.codes.specs.Codes.{codeOf}
+use Rattle.codes.specs.Voltage.{IsFraction}
 use Rattle.adc_words.specs.declared.AdcWord.{AdcWord}
 use Rattle.adc_words.specs.declared.AdcWord.the-variants as adc
-use Rattle.channel_core.specs.Results.{Reading, volts, lost, damaged}
+use Rattle.channel_core.specs.Results.{AdcReading, volts, lost, damaged}
 use Rattle.channel_core.specs.Answers.{Answer}
 use Rattle.channel_core.specs.Answers as ans
+use Rattle.channel_readings.specs.Measuring.{measured}
 use Rattle.channel.specs.OneChannel.{ChannelCall, oneChannel, response, transitions, query, readings}
 use Rattle.histories.specs.History.{isKept, Told, toldOf, asks, sendsSetpoint, receives}
-use Rattle.histories.specs.Windows.{idles}
+use Rattle.histories.specs.Windows.{idles, closed, windowSince}
 
 -- ---- The replies
 
@@ -38,21 +41,36 @@ repliesOver n m setpoints readbacks ks = repliesSince [] (toldOf (oneChannel n m
 
 -- ---- The readings
 
--- what a reading says of a reply: "a voltage, or lost, or damaged by a wrong CRC", and "the voltage is exactly code × 10 / 32,768"
-abbrev pub Says : AdcWord → Reading → Type 0
-Says adc.Lost r = r ≡ lost
-Says adc.Damaged r = r ≡ damaged
-Says (adc.Data word) r = (x : Float) × (r ≡ volts x) × Is x (codeOf word *ℤ pos 10) 32768
+-- the reading of the reply at place k, from 0 on; lost where it has not come
+abbrev pub readingAt : List AdcWord → (k : ℕ) → AdcReading
+readingAt replies k = measured (getD replies k adc.Lost)
 
--- an answer of the readings of the third to sixth of these replies, which are places 2 to 5 from 0 on; one that has not come is lost
-pub record TellsReplies (replies : List AdcWord) (a : Answer) : Type 0 where
-  pub at-most-six : length replies ≤ 6
-  pub reading : ℕ → Reading
-  pub says : (k : ℕ) → Says (getD replies k adc.Lost) (reading k)
-  pub answers : a ≡ ans.readings (reading 2) (reading 3) (reading 4) (reading 5)
+-- "A send's third to sixth replies are its ADC words."
+abbrev pub readingsBy : List AdcWord → Answer
+readingsBy replies = ans.readings (readingAt replies 2) (readingAt replies 3) (readingAt replies 4) (readingAt replies 5)
 
 -- from an opening, after any list of calls; the call is lent nothing, and looks at no length
 abbrev pub ReadingsTold : Type 0
 ReadingsTold =
     (n m : ℕ) (setpoints readbacks : List ℕ) (ks : List ChannelCall) (one two : ℕ)
-    → TellsReplies (repliesOver n m setpoints readbacks ks) (response (transitions (oneChannel n m setpoints readbacks) ks) (query readings one two))
+    → response (transitions (oneChannel n m setpoints readbacks) ks) (query readings one two) ≡ readingsBy (repliesOver n m setpoints readbacks ks)
+
+-- what a reading says of its reply: "a voltage, or lost, or damaged by a wrong CRC", and "the voltage is exactly code × 10 / 32,768"
+abbrev pub Says : AdcWord → AdcReading → Type 0
+Says adc.Lost r = r ≡ lost
+Says adc.Damaged r = r ≡ damaged
+Says (adc.Data word) r = (x : Float) × (r ≡ volts x) × IsFraction x (codeOf word *ℤ pos 10) 32768
+
+-- so each of the four
+abbrev pub ReadingsSay : Type 0
+ReadingsSay =
+    (n m : ℕ) (setpoints readbacks : List ℕ) (ks : List ChannelCall) (k : ℕ) → 2 ≤ k → k ≤ 5
+    → let replies = repliesOver n m setpoints readbacks ks in
+    Says (getD replies k adc.Lost) (readingAt replies k)
+
+-- "with none, all four are lost": no setpoint was sent since opening or the last call that idles
+abbrev pub NoneLost : Type 0
+NoneLost =
+    (n m : ℕ) (setpoints readbacks : List ℕ) (ks : List ChannelCall) (one two : ℕ)
+    → windowSince closed (toldOf (oneChannel n m setpoints readbacks) ks) .sent ≡ false
+    → response (transitions (oneChannel n m setpoints readbacks) ks) (query readings one two) ≡ ans.readings lost lost lost lost

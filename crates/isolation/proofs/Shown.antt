@@ -17,6 +17,7 @@ use Rattle.board_state.specs.Checks.{setpointsFit}
 use Rattle.board_state.specs.Parts.{own}
 use Rattle.board.specs.Calls.{tickBoardAnswer}
 use Rattle.board_channels.specs.Calls.{setpointAnswer}
+use Rattle.board_readings.specs.Calls.{readingsAnswer}
 use Rattle.board_registers.specs.Calls.{readAnswer}
 use Rattle.board.specs.Worlds.{World}
 use Rattle.isolation.specs.Calls.{writeSetpoint, tick, Lent, none, words, first, answer, refused, given, worldAfter, opening}
@@ -25,13 +26,17 @@ use Rattle.isolation.specs.Isolation.{oneChannelAt, MatchesOneChannel, S
 use Rattle.isolation.proofs.Parts.{Number}
 use Rattle.isolation.proofs.Worlds.{Good, step-refused, full-sets}
 use Rattle.isolation.proofs.Mains.{status-bit}
-use Rattle.isolation.proofs.Observing.{observe-read}
+use Rattle.isolation.proofs.Observing.{observe-read, observe-query}
 use Rattle.isolation.proofs.Isolation.{isolation, good-opening}
 
 module _ (c : ℕ) (h : Number c) (w : World) where
   pub register-shown : (o : ℕ) → o < 0x800 → readAnswer (w .board) (0x800 * c + o) ≡ response (view c w) (to.readRegister o)
   unfolding answer
   register-shown o l = observe-read w c h (0x800 * c + o) o none (channel-named c o (h .low) (h .high) l)
+
+  readings-shown : readingsAnswer (w .board) c ≡ response (view c w) (to.query to.readings 0 0)
+  unfolding answer
+  readings-shown = observe-query w c h to.readings none (inr refl)
 
   view-shown : Shows (w .board .n) (w .board .m) c w (view c w)
   view-shown =
@@ -42,7 +47,7 @@ module _ (c : ℕ) (h : Number c) (w : World) where
         receiving = refl;
         tag = refl;
         tagged = refl;
-        adc = refl;
+        readings = readings-shown;
         interruptStatus = refl;
         pollingStatus = refl;
         mainInterrupt = status-bit (w .board) false c h;

@@ -1,6 +1,7 @@
 -- Document 01, 'What holds it to this': demand 3, "each channel behaves as it would alone". The claim, and what stands beside it.
 -- Proofs: Isolation and FedTheSame in proofs/Isolation.antt, IsolationShown, MissingCounted and NotVacuous in Shown, DefaultsUnused and
--- OneFrameATick in Defaults, EndWordStays, EndWordStands and GroupEndAccepted in EndWords, MarksRetired in Marks, ReadingsTold in Readings, the others in Refused and Others.
+-- OneFrameATick in Defaults, EndWordStays, EndWordStands and GroupEndAccepted in EndWords, MarksRetired in Marks, ReadingsTold in Readings, the others
+-- in Refused and Others.
 use Prim.Native.Nat.{ℕ, _+_, _-_, _*_, _<_, _≤_}
 use mathlib.Core.Path.{_≡_}
 use mathlib.Core.Bool.{Bool, true, false, not}
@@ -19,7 +20,7 @@ use Rattle.histories.specs.Ranges.{InRange}
 use Rattle.histories.specs.Missing.{shortfallsOver, missingCount}
 use Rattle.histories.specs.EndWords.{secondActiveOver, groupRetiredOver, StaysRetired}
 use Rattle.histories.specs.Tags.{marksIn, marksOver}
-use Rattle.histories.specs.Readings.{repliesOver, TellsReplies}
+use Rattle.histories.specs.Readings.{repliesOver, readingsBy}
 use Rattle.board_state.specs.declared.Board.{Board}
 use Rattle.board_state.specs.State.{channelAt}
 use Rattle.board_state.specs.Main.{mainStatus}
@@ -29,7 +30,7 @@ use Rattle.board.specs.Calls.{openAnswer}
 use Rattle.board_readings.specs.Calls.{readingsAnswer}
 use Rattle.board_registers.specs.Calls.{readAnswer}
 use Rattle.board.specs.Worlds.{World}
-use Rattle.isolation.specs.Calls.{Call, writeRegister, writeSetpoint, query, tick, Lent, words, buffers, Item, answer, after, lentAfter, refused, ownBuffers, step, Fits, Allowed, worldAfter, opening}
+use Rattle.isolation.specs.Calls.{Call, writeRegister, writeSetpoint, query, tick, Lent, none, words, buffers, Item, answer, after, lentAfter, refused, ownBuffers, step, Fits, Allowed, worldAfter, opening}
 use Rattle.isolation.specs.Feeding.{names, feeds, fed, observes, view}
 
 -- one channel by itself, opened with the same depths and its own part of the words
@@ -64,8 +65,8 @@ pub record Shows (n m c : ℕ) (w : World) (o : OneChannel) : Type 0 where
   -- the tag not yet used, and whether the last send used one, which no read shows
   pub tag : channelAt (w .board) c .sequencer .tag ≡ o .channel .sequencer .tag
   pub tagged : channelAt (w .board) c .sequencer .last .tagged ≡ o .channel .sequencer .last .tagged
-  -- the ADC words of the last send, which the readings show, and no read
-  pub adc : channelAt (w .board) c .sequencer .last .adc ≡ o .channel .sequencer .last .adc
+  -- the readings of the last send
+  pub readings : readingsAnswer (w .board) c ≡ response o (to.query to.readings 0 0)
   -- both statuses
   pub interruptStatus : channelAt (w .board) c .status .interrupt .bits ≡ o .channel .status .interrupt .bits
   pub pollingStatus : channelAt (w .board) c .status .polling .bits ≡ o .channel .status .polling .bits
@@ -201,15 +202,16 @@ MarksRetired =
     → (xs : List Item) → Allowed (opening n m s r) xs
     → MarkedPart c (worldAfter (opening n m s r) xs) (marksOver n m (own s (n * 16) c) (own r (m * 2) c) (fed c xs) .retired)
 
--- document 02, card 7: from an opening, over any allowed list, the readings that the board answers of channel c are those of the replies that the answers to
--- the calls fed to c tell
+-- document 02, card 7: from an opening, over any allowed list, the readings that the board answers of channel c are those of the replies that the answers
+-- to the calls fed to c tell; what each says of its reply: `ReadingsSay` (histories), of any such list
 abbrev pub ReadingsTold : Type 0
 ReadingsTold =
     (n m : ℕ) (s r : List ℕ)
     → openAnswer n m (length s) (length r) ≡ ans.done
     → (c : ℕ) → 1 ≤ c → c ≤ 4
     → (xs : List Item) → Allowed (opening n m s r) xs
-    → TellsReplies (repliesOver n m (own s (n * 16) c) (own r (m * 2) c) (fed c xs)) (readingsAnswer (worldAfter (opening n m s r) xs .board) c)
+    → answer (worldAfter (opening n m s r) xs .board) (query c to.readings) none
+    ≡ one (readingsBy (repliesOver n m (own s (n * 16) c) (own r (m * 2) c) (fed c xs)))
 
 -- Commands with D2 for channel c, lent the memory of this world; and what c is fed of it
 abbrev pub groupEndOf : ℕ → World → Item

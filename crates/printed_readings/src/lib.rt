@@ -4,7 +4,7 @@ use board_state::Board;
 use channel_readings::Reading;
 use output::Block;
 
-// The whole part of a number that is not negative; 0 of what an u64 does not hold.
+// The whole part of a number; 0 of one that a u64 does not hold.
 fn whole_part(x: f64) -> u64 {
     if x > -1.0 {
         if x < 18446744073709551616.0 {
@@ -15,16 +15,16 @@ fn whole_part(x: f64) -> u64 {
 }
 
 // A voltage × 32,768, which is a whole number.
-fn volts(block: &mut Block, volts: f64) {
-    if volts < 0.0 {
-        output::numbered(block, b" -", whole_part(-volts * 32768.0));
+fn volts(block: &mut Block, x: f64) {
+    if x < 0.0 {
+        output::numbered(block, b" -", whole_part(-x * 32768.0));
     } else {
-        output::numbered(block, b" ", whole_part(volts * 32768.0));
+        output::numbered(block, b" ", whole_part(x * 32768.0));
     }
 }
 
-fn reading(block: &mut Block, reading: Reading) {
-    match reading {
+fn reading(block: &mut Block, answer: Reading) {
+    match answer {
         Reading::Volts(x) => volts(block, x),
         Reading::Lost => output::text(block, b" lost"),
         Reading::Damaged => output::text(block, b" damaged"),

@@ -5,10 +5,11 @@ use Prim.Native.Nat.{ℕ, suc, _+_, _-_, _/_, _%_, _≤_, _<_}
 use mathlib.Core.Bool.{cond}
 use mathlib.Core.Logic.{_⊎_}
 use mathlib.Core.List.{List}
-use lib.Dec.{ltb, eqb}
-use lib.IntN.{ℤ, pos, negsuc, _+ℤ_, _-ℤ_, _*ℤ_}
+use lib.Dec.{eqb}
+use lib.IntN.{ℤ, pos, _+ℤ_, _-ℤ_, _*ℤ_}
 use lib.ListN.{length, getD}
 use lib.Signed.{_≤ℤ_}
+use Rattle.codes.specs.Codes.{codeOf}
 use Rattle.ramp.specs.declared.Breakpoint.{Breakpoint}
 use Rattle.ramp.specs.Answers.{wrote, refused}
 use Rattle.ramp.specs.Ramp.{indexAt, codeAt, lastIndex, rampAnswer, rampCodes, rampRemainders}
@@ -22,7 +23,7 @@ pub record Between (ps : List Breakpoint) (k i : ℕ) : Type 0 where
 
 -- the code that a word carries: its low 16 bits, "two's complement"
 abbrev pub signed : ℕ → ℤ
-signed word = cond (ltb (word % 65536) 32768) (pos (word % 65536)) (negsuc (65535 - word % 65536))
+signed word = codeOf (word % 65536)
 
 -- "Code and remainder restore the exact fraction.", s + (t − s) × (i − p) / (q − p), here times q − p; "the remainder left over, from 0 to q − p − 1". So the code is
 -- no lower than one neighbour's and no higher than the other's.

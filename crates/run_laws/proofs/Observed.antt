@@ -16,7 +16,7 @@ use Rattle.command_frames.specs.Commanding.{takes}
 use Rattle.channel_core.specs.declared.Channel.{Channel}
 use Rattle.channel_core.specs.Answers.{Answer, isRefusal, isFrame, unless}
 use Rattle.channel_core.specs.Answers as ans
-use Rattle.channel_readings.specs.Reading as reading
+use Rattle.channel_readings.specs.Measuring as reading
 use Rattle.channel_replies.specs.Replying.{receiptAnswer, dispositionNow, replyAnswerAs, replyAnswer}
 use Rattle.channel_registers.specs.Calls as channel-registers
 use Rattle.channel.specs.Calls as chn

@@ -179,7 +179,7 @@ abbrev pub missingWith : ℕ → ℕ → ℕ
 missingWith missing more = min (missing + more) 255
 
 -- the word due is sent, of this kind, with this Frame ID: "After a send the next follows one period later." A tag not yet used marks this send, and so
--- "the send after it ends the mark", here and where a word is repeated; so do its ADC words begin anew.
+-- "the send after it ends the mark", here and where a word is repeated. No reply has come, so its ADC words are lost.
 unfoldable pub sentAs : Sequencer → ℕ → ℕ → ℕ → Kind → Ticked
 sentAs s due period id k =
     record {
@@ -256,11 +256,11 @@ abbrev pub withReplies : LastSend → ℕ → AdcWords → LastSend
 withReplies l replies adc =
     record { sent = l .sent; first = l .first; paused = l .paused; last = l .last; id = l .id; tagged = l .tagged; replies = replies; adc = adc }
 
--- one more reply after the last send; six are counted. `word` is what it is worth as an ADC word, which it is by its position.
+-- one more reply after the last send; six are counted. `become` is what becomes of it, kept where its position is that of an ADC word.
 unfoldable pub answered : Sequencer → AdcWord → Sequencer
-answered s word =
+answered s become =
     withLast s
-    (withReplies (s .last) (cond (ltb (s .last .replies) 6) (s .last .replies + 1) (s .last .replies)) (withReply (s .last .adc) (s .last .replies) word))
+    (withReplies (s .last) (cond (ltb (s .last .replies) 6) (s .last .replies + 1) (s .last .replies)) (withReply (s .last .adc) (s .last .replies) become))
 
 -- Group End: "idle; .. the setpoint count is .. cleared"; card 6: it drops "a tag not yet used"
 unfoldable pub groupEnded : Sequencer → Sequencer

@@ -239,7 +239,7 @@ impl Sequencer {
         }
     }
 
-    // A reply after the last send, kept or lost, and what it is worth as an ADC word.
+    // A reply after the last send, kept or lost; `word` is what becomes of it.
     pub fn answered(self, word: AdcWord) -> Sequencer
         ensures { λ r. ⌜ r ≡ answered self word ⌝ }
     {

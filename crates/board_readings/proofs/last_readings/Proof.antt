@@ -3,7 +3,7 @@ use mathlib.Core.Path.{sym, ap, _∙_}
 use native.Mathlib.Omega.{arith}
 use borrow.Author.Needs.{needs}
 use Rattle.channel_core.specs.declared.Channel.{Channel}
-use Rattle.channel_readings.specs.Reading as one
+use Rattle.channel_readings.specs.Measuring as one
 use Rattle.channel.proofs.Ranges.{inside}
 use Rattle.board_readings.specs.Calls.{readingsAnswer}
 use Rattle.board_readings.proofs.last_readings.Statement.{statement}
@@ -16,8 +16,8 @@ returns : tie.Need-returns
 unfolding readingsAnswer
 returns c = rw (← c .before .is-outside .ensures) (simp (c .if1 .taken))
 
-cast-channel : tie.Need-cast-channel
-cast-channel c = omega (arith, inside 1 4 (c .before .before .args .number) (sym (c .before .is-outside .ensures) ∙ c .if1 .left))
+cast-channel-number : tie.Need-cast-channel-number
+cast-channel-number c = omega (arith, inside 1 4 (c .before .before .args .number) (sym (c .before .is-outside .ensures) ∙ c .if1 .left))
 
 channel-requires : tie.Need-channel-requires
 channel-requires c κs = search needs
@@ -33,4 +33,4 @@ returns-2 c =
     (c .last-readings .ensures ∙ ap (λ (x : Channel). one.readingsAnswer x) (c .before .channel .ensures))
 
 pub last-readings-spec : {M : Type 1} → statement M
-last-readings-spec = tie.close (tie.spec is-outside-requires returns cast-channel channel-requires last-readings-requires returns-2)
+last-readings-spec = tie.close (tie.spec is-outside-requires returns cast-channel-number channel-requires last-readings-requires returns-2)

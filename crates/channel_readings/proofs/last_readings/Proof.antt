@@ -1,6 +1,6 @@
 -- `channel_readings::last_readings` meets its contract: each of the four by itself. Assumes nothing.
 use borrow.Author.Needs.{needs}
-use Rattle.channel_readings.specs.Reading.{readingsAnswer}
+use Rattle.channel_readings.specs.Measuring.{readingsAnswer}
 use Rattle.channel_readings.proofs.last_readings.Statement.{statement}
 use Rattle.channel_readings.proofs.last_readings.Tie as tie
 

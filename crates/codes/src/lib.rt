@@ -1,6 +1,7 @@
 // The signed code that 16 bits of data stand for, and its voltage.
 ghost use mathlib.Core.Path.{_≡_};
-ghost use Rattle.voltage.specs.Voltage.{codeOf, voltageOf};
+ghost use Rattle.codes.specs.Codes.{codeOf};
+ghost use Rattle.codes.specs.Voltage.{voltageOf};
 
 // Two's complement.
 pub fn code(word: u16) -> i32

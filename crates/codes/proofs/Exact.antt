@@ -3,17 +3,19 @@ use mathlib.Core.Path.{_≡_, refl, sym, ap, _∙_, subst}
 use Prim.Native.Nat.{ℕ, zero, suc, _+_, _-_, _*_, _^_, _≤_, _<_}
 use native.Mathlib.Nat.{le-trans, lt-of-lt-of-le, mul-one, mul-assoc, mul-comm, mul-right-comm, mul-pos}
 use native.Mathlib.Omega.{arith}
-use mathlib.Core.Bool.{Bool, true, false}
+use mathlib.Core.Bool.{Bool, true, false, not}
 use lib.Dec.{lit<, lit≤}
 use lib.Pow.{pow-pos, pow-add, shl-lt, pow-mono}
 use lib.IntN.{ℤ, pos, negsuc, natAbs, negℤ, _*ℤ_}
+use lib.Signed.{nonNeg, natAbs-le}
 use lib.Ieee.{Float, nan, inf, fin, binary64, unlike, up, down, mul, div, ofInt, round}
 use lib.Ieee.Fits.{down-pos}
 use lib.Ieee.Exact.{HasValue, round-exact}
 use lib.Ieee.Scale.{round-same}
 use lib.Ieee.Back.{round-whole}
-use Rattle.voltage.specs.Voltage.{codeOf, ten, fullScale, voltageOf, isNegative, Is, VoltageExact}
-use Rattle.voltage.proofs.Codes.{code-size}
+use Rattle.codes.specs.Codes.{codeOf}
+use Rattle.codes.specs.Voltage.{ten, fullScale, voltageOf, IsFraction, VoltageExact}
+use Rattle.codes.proofs.Codes.{code-range}
 
 -- a / c is n / 2 ^ k, with n of no more digits than an f64 keeps: it is not rounded
 exact-at : (s : Bool) (a c n k : ℕ) → 0 < c → k ≤ 1074 → n < 2 ^ 53 → a * 2 ^ k ≡ n * c → HasValue (round binary64 s a c) s n (2 ^ k)
@@ -54,16 +56,16 @@ by-full-scale (fin t m e) s n small h =
     (exact-at (unlike t false) (m * up e * 1) (32768 * down e) n 15 (mul-pos (lit< tt) (down-pos e)) (lit≤ tt) small
     (ap (λ (z : ℕ). z * 32768) (mul-one (m * up e) ∙ q) ∙ mul-assoc n (down e) 32768 ∙ ap (λ (z : ℕ). n * z) (mul-comm (down e) 32768)))
 
-whole : (z : ℤ) → natAbs z ≤ 32768 → HasValue (ofInt binary64 z) (isNegative z) (natAbs z) 1
+whole : (z : ℤ) → natAbs z ≤ 32768 → HasValue (ofInt binary64 z) (not (nonNeg z)) (natAbs z) 1
 unfolding ofInt
 whole (pos n) h = round-whole binary64 false n (le-trans h (lit≤ tt))
 whole (negsuc n) h = round-whole binary64 true (suc n) (le-trans h (lit≤ tt))
 
-ten-times : (x : Float) (z : ℤ) → HasValue x (isNegative z) (natAbs z * 10) 32768 → Is x (z *ℤ pos 10) 32768
+ten-times : (x : Float) (z : ℤ) → HasValue x (not (nonNeg z)) (natAbs z * 10) 32768 → IsFraction x (z *ℤ pos 10) 32768
 ten-times x (pos n) h = h
 ten-times x (negsuc n) h = go (suc n * 10) (omega arith) h
   where
-    go : (k : ℕ) → 1 ≤ k → HasValue x true k 32768 → Is x (negℤ (pos k)) 32768
+    go : (k : ℕ) → 1 ≤ k → HasValue x true k 32768 → IsFraction x (negℤ (pos k)) 32768
     go zero some i = absurd (omega arith)
     go (suc k) some i = i
 
@@ -71,8 +73,8 @@ pub voltage-exact : VoltageExact
 unfolding voltageOf
 voltage-exact word h =
     let z = codeOf word in
-    let size = code-size word h in
+    let size = natAbs-le z (code-range word) in
     let n = natAbs z in
     let small : n * 10 < 9007199254740992 = omega arith in
     ten-times (voltageOf word) z
-    (by-full-scale (mul binary64 (ofInt binary64 z) ten) (isNegative z) (n * 10) small (times-ten (ofInt binary64 z) (isNegative z) n small (whole z size)))
+    (by-full-scale (mul binary64 (ofInt binary64 z) ten) (not (nonNeg z)) (n * 10) small (times-ten (ofInt binary64 z) (not (nonNeg z)) n small (whole z size)))

@@ -1,15 +1,15 @@
 -- Document 02, card 7: the readings of a channel's "last setpoint send since idle". They change nothing.
-use Rattle.voltage.specs.Voltage.{voltageOf}
+use Rattle.codes.specs.Voltage.{voltageOf}
 use Rattle.adc_words.specs.declared.AdcWord.{AdcWord}
 use Rattle.adc_words.specs.declared.AdcWord.the-variants as adc
 use Rattle.adc_words.specs.declared.AdcWords.{AdcWords}
 use Rattle.channel_core.specs.declared.Channel.{Channel}
-use Rattle.channel_core.specs.Results.{Reading, volts, lost, damaged}
+use Rattle.channel_core.specs.Results.{AdcReading, volts, lost, damaged}
 use Rattle.channel_core.specs.Answers.{Answer}
 use Rattle.channel_core.specs.Answers as ans
 
--- the reading of an ADC word: the voltage of its data (`VoltageExact`, voltage/specs/Voltage: exactly code × 10 / 32,768), or what became of it
-abbrev pub measured : AdcWord → Reading
+-- the reading of an ADC word: the voltage of its data (`VoltageExact`, codes/specs/Voltage: exactly code × 10 / 32,768), or what became of it
+abbrev pub measured : AdcWord → AdcReading
 measured adc.Lost = lost
 measured adc.Damaged = damaged
 measured (adc.Data word) = volts (voltageOf word)

@@ -1,15 +1,16 @@
--- `voltage::volts` meets its contract: an i32 holds the code. Assumes nothing.
+-- `codes::volts` meets its contract: an i32 holds the code. Assumes nothing.
 use mathlib.Core.Path.{ap, _∙_}
 use lib.IntN.{ℤ}
-use lib.Ieee.{Float, binary64, mul, div, ofInt, ofBits}
+use lib.Ieee.{binary64, mul, div, ofInt, ofBits}
 use mir.Syntax.{w32}
 use mir.Val.{toZ, ofZ}
 use mir.ValLaws.{toZ-ofZ}
 use borrow.Author.Needs.{needs}
-use Rattle.voltage.specs.Voltage.{codeOf, ten, fullScale, voltageOf}
-use Rattle.voltage.proofs.Codes.{code-fits}
-use Rattle.voltage.proofs.volts.Statement.{statement}
-use Rattle.voltage.proofs.volts.Tie as tie
+use Rattle.codes.specs.Codes.{codeOf}
+use Rattle.codes.specs.Voltage.{ten, fullScale, voltageOf}
+use Rattle.codes.proofs.Codes.{code-fits}
+use Rattle.codes.proofs.volts.Statement.{statement}
+use Rattle.codes.proofs.volts.Tie as tie
 
 code-requires : tie.Need-code-requires
 code-requires c κs = search needs
@@ -22,7 +23,7 @@ unfolding voltageOf ofBits
 returns c =
     let word = c .before .before .args .word in
     ap (λ (z : ℤ). div binary64 (mul binary64 (ofInt binary64 z) ten) fullScale)
-    (ap (λ (z : ℤ). toZ w32 (ofZ w32 z)) (c .before .code .ensures) ∙ toZ-ofZ w32 (codeOf word) (code-fits word (c .before .before .fits .word .fits)))
+    (ap (λ (z : ℤ). toZ w32 (ofZ w32 z)) (c .before .code .ensures) ∙ toZ-ofZ w32 (codeOf word) (code-fits word))
 
 pub volts-spec : {M : Type 1} → statement M
 volts-spec = tie.close (tie.spec code-requires int-to-float-result returns)
