@@ -6,7 +6,11 @@ mod end_word;
 mod life;
 mod missing;
 mod peek;
+mod record;
+mod refused;
 mod replies;
+mod rows;
+mod sending;
 mod tag;
 mod volts;
 
@@ -17,7 +21,7 @@ use self::end_word::Groups;
 use self::life::Asked;
 use self::missing::Watch;
 use self::tag::{Dropped, Tags};
-use self::volts::{Idled, Readings};
+use self::volts::{Idled, WatchedVolts};
 use crate::channel::{Channel, Window, CLOCK, SWITCH, TAG};
 use crate::map::{place, rule, Place};
 use crate::tally::{Did, Tally};
@@ -41,17 +45,30 @@ pub struct Board {
     groups: [Groups; 4],
     unread: [Unread; 4],
     tags: [Tags; 4],
-    readings: [Readings; 4],
+    /// Of each channel, on a script's board; else empty.
+    watched_volts: Vec<WatchedVolts>,
 }
 
 impl Board {
     /// "all registers 0, channels disarmed, user 1, buffers 1 active, no readbacks"
     fn blank(n: u32, m: u32) -> Board {
-        let ch = [Channel::new(), Channel::new(), Channel::new(), Channel::new()];
-        let (watch, groups, unread, tags, readings) = Default::default();
-        let (main, tally) = ([0, 0], Tally::new());
-        let (user, now, level, vector, enable) = (1, 0, 0, 0, 0);
-        Board { n, m, user, now, level, vector, enable, main, ch, tally, watch, groups, unread, tags, readings }
+        Board {
+            n,
+            m,
+            user: 1,
+            now: 0,
+            level: 0,
+            vector: 0,
+            enable: 0,
+            main: [0, 0],
+            ch: [Channel::new(), Channel::new(), Channel::new(), Channel::new()],
+            tally: Tally::new(),
+            watch: Default::default(),
+            groups: Default::default(),
+            unread: Default::default(),
+            tags: Default::default(),
+            watched_volts: Vec::new(),
+        }
     }
 
     /// Misfit: "a depth out of range, or lent lengths other than 64 × N and 8 × M". What a
@@ -132,6 +149,7 @@ impl Board {
         if at == TAG {
             self.watch_tag_register(c, value);
         }
+        self.watch_volts_kept(c, Did::volts_kept_over_register_write);
         self.ch[c].w[at] = kept;
     }
 
@@ -157,11 +175,13 @@ impl Board {
                 }
                 self.watch_status_read(c, latched);
                 self.tally_crc(c, offset, latched);
+                self.watch_volts_kept(c, Did::volts_kept_over_status_read);
                 Ok(latched)
             }
             Place::Channel(c, 0x0C) => {
                 let count = self.read_missing(c);
                 self.tally_tag_shortfall(c, count);
+                self.watch_volts_kept(c, Did::volts_kept_over_count_read);
                 Ok(count)
             }
             Place::Channel(c, offset) => {
@@ -187,6 +207,7 @@ impl Board {
             (false, true) => self.tally.add(Did::setpoint_inactive_while_armed),
             (false, false) => {}
         }
+        self.watch_volts_kept(c, Did::volts_kept_over_setpoint_write);
         setpoints[self.word_at(c, user, buffer - 1, index)] = word;
         Ok(())
     }
@@ -250,6 +271,9 @@ impl Board {
         self.main[1] |= 8;
         for c in 0..4 {
             let asked = Asked::by_event(code, &self.ch[c]);
+            if asked.is_nothing() {
+                self.watch_volts_kept(c, Did::volts_kept_over_event_of_no_meaning);
+            }
             self.act(c, asked, readbacks);
         }
         self.watch_tag_event(code);
@@ -271,11 +295,11 @@ impl Board {
             return Ok(());
         }
         self.tally.add(Did::user_changed);
-        self.user = user;
+        let from = std::mem::replace(&mut self.user, user);
         for c in 0..4 {
             self.watch_idling(c, Did::missing_idled_by_user_change, Did::missing_kept_over_user_change);
             self.watch_tag_kept(c, Did::tag_kept_over_user_change);
-            self.watch_volts_idled(c, Idled::UserChange);
+            self.watch_volts_idled(c, Idled::UserChange { from, to: user });
             self.end_function(c, Did::ee_by_user_change);
             if self.is_for_command(c) {
                 self.tally.add(Did::command_window_open_at_user_change);

@@ -71,7 +71,8 @@ impl Bench {
         let (n, m) = (number(header, 0), number(header, 4));
         let lent_s = (64 * n as u64).min(SETPOINTS as u64) as usize;
         let lent_r = (8 * m as u64).min(READBACKS as u64) as usize;
-        let (board, opened) = Board::open(n, m, lent_s, lent_r);
+        let (mut board, opened) = Board::open(n, m, lent_s, lent_r);
+        board.watch_volts();
         (Bench { board, setpoints, readbacks }, answer(opened, |_| Answer::Ok))
     }
 
@@ -102,6 +103,7 @@ impl Bench {
             opened.watch_opening(&self.board);
             opened.watch_tag_opening(&self.board);
         }
+        opened.watch_volts();
         opened.watch_volts_opening(&self.board);
         opened.tally.join(&self.board.tally);
         self.board = opened;

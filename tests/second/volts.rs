@@ -15,7 +15,7 @@ pub fn voltage(data: u16) -> f64 {
     data as i16 as f64 * 10.0 / 32_768.0
 }
 
-/// A voltage is printed times 32,768: a whole number, so that every digit of it is told.
+/// A voltage is printed times 32,768, with every digit: it is a whole number (`checks` has all of them).
 impl fmt::Display for Reading {
     fn fmt(&self, f: &mut fmt::Formatter) -> fmt::Result {
         match self {

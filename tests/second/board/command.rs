@@ -1,6 +1,7 @@
 //! Command frames between functions: document 02, request 1, whose quotations these are.
 
 use super::life::Asked;
+use super::record::MANY;
 use super::Board;
 use crate::channel::{Channel, CommandAsked, Waiting, Window, COMMAND, CRC, PAIRS, REPLIED};
 use crate::frame::frame;
@@ -108,19 +109,13 @@ impl Board {
     }
 }
 
-/// The replies that the last command frame took, while more may go to it.
+/// The replies that the last command frame took, while its window is open.
 pub(super) fn replies_to_command(ch: &Channel) -> u16 {
     if ch.window == Window::Open { ch.w[REPLIED] } else { 0 }
 }
 
 /// What the corpus reaches of it.
 impl Board {
-    pub(super) fn tally_if(&mut self, is: bool, did: Did) {
-        if is {
-            self.tally.add(did);
-        }
-    }
-
     fn tally_refused_10(&mut self, c: usize, bits: u16) {
         let ch = &self.ch[c];
         let (is_armed, waits) = (ch.armed, ch.waiting.is_some());
@@ -164,7 +159,7 @@ impl Board {
         self.tally_if(due > 1, Did::command_on_two_channels_at_once);
         for c in 0..4 {
             let ch = &self.ch[c];
-            let Some(waiting) = ch.waiting.filter(|_| count >= 20) else { continue };
+            let Some(waiting) = ch.waiting.filter(|_| count as u64 >= MANY) else { continue };
             let is_setpoint_due = ch.function.as_ref().is_some_and(|f| f.due <= self.now + count as u64);
             if waiting.due.is_none() {
                 self.tally.add(Did::command_waits_through_many_ticks);
@@ -191,9 +186,7 @@ impl Board {
             (!ch.armed, Did::command_while_disarmed),
             (ch.w[REPLIED] != 0, Did::command_clears_count),
         ];
-        for (is, did) in rows {
-            self.tally_if(is, did);
-        }
+        self.tally_rows(&rows);
     }
 
     /// Before a reply goes to E4–FA.
@@ -210,9 +203,7 @@ impl Board {
             (is_full && self.m > 1, Did::command_reply_with_full_buffer),
             (self.m == 1, Did::end_word_of_depth_1_command_reply),
         ];
-        for (is, did) in rows {
-            self.tally_if(is, did);
-        }
+        self.tally_rows(&rows);
     }
 
     /// Before a reply that does not go to E4–FA, though there is space.

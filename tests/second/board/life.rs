@@ -34,6 +34,9 @@ impl Asked {
         let resume = [false, false, false, false, false, is(1)];
         Asked { group_end: is(2), start: is(0), resume, tag: is(3), by_command: true }
     }
+    pub fn is_nothing(&self) -> bool {
+        !(self.group_end || self.start || self.tag || self.resume.contains(&true))
+    }
 }
 
 /// "D31 first send of the function's first word, D30 paused, D29 last, D28–D26 user less 1"

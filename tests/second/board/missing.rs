@@ -71,12 +71,6 @@ struct Record {
 
 /// What the corpus reaches of it.
 impl Board {
-    pub(super) fn tally_rows(&mut self, rows: &[(bool, Did)]) {
-        for &(is, did) in rows {
-            self.tally_if(is, did);
-        }
-    }
-
     fn tally_look_back(&mut self, c: usize, is_next: bool) {
         let Some(f) = self.ch[c].function.clone() else { return };
         match f.sent {

@@ -66,7 +66,8 @@ impl Board {
         Ok(answer)
     }
 
-    /// A reply that is refused 1, whatever its channel.
+    /// A reply that is refused 1. One to no channel or badly framed would be refused with right lengths too, and takes no
+    /// place either way.
     fn tally_reply_refused(&mut self, c: u32, reply: u64) {
         self.tally.add(Did::reply_refused_1);
         if let (Ok(c), false) = (Board::channel(c), badly_framed(reply)) {

@@ -5,10 +5,9 @@ mod sends;
 mod shown;
 mod words;
 
-pub(super) use self::reached::only;
 pub use self::reached::{Dropped, Tags};
-pub use self::sends::{Kind, Sending};
 use super::life::Asked;
+use super::sending::Sending;
 use super::Board;
 use crate::tally::Did;
 

@@ -5,7 +5,7 @@ mod places;
 mod reached;
 
 pub use self::kept::Idled;
-pub use self::reached::Readings;
+pub use self::reached::WatchedVolts;
 use super::Board;
 use crate::channel::Sent;
 use crate::volts::{voltage, Reading};
@@ -26,8 +26,9 @@ impl Board {
     /// lost."
     pub fn voltages(&mut self, c: u32) -> Result<[Reading; 4], u8> {
         let c = Board::channel(c).inspect_err(|_| self.tally_voltages_refused(c))?;
-        self.tally_voltages(c);
         let sent = self.ch[c].function.as_ref().and_then(|f| f.sent);
-        Ok(sent.map_or([Reading::Lost; 4], |sent| sent.readings))
+        let told = sent.map_or([Reading::Lost; 4], |sent| sent.readings);
+        self.tally_voltages(c, told);
+        Ok(told)
     }
 }

@@ -39,7 +39,6 @@ fn six(words: &[u32]) -> Small {
     let mut t = Small::of_depth(64, words);
     t.send();
     t.replies(&[1, 2, 3, 4, 5, 6]);
-    assert_eq!(t.told(), SIX);
     t
 }
 
@@ -145,12 +144,13 @@ fn sends() -> Done {
 fn idled() -> Done {
     let after = |acts: fn(&mut Small)| {
         let mut t = six(&[5]);
+        let before = t.told();
         acts(&mut t);
         let idle = t.told();
         t.write(0x80A, 3);
         t.b.arm(1).unwrap();
         t.write(0x808, 1);
-        [idle, t.told()] == [LOST; 2]
+        [before, idle, t.told()] == [SIX, LOST, LOST]
     };
     vec![
         ("nothing yet", Small::new(&[5]).told() == LOST),
@@ -182,13 +182,16 @@ fn left() -> Done {
         ("the seventh reply", after(|t| t.replies(&[7]))),
         ("the seventh reply with a wrong CRC", after(|t| t.wrong(6))),
         ("the same user", after(|t| t.b.change_user(1).unwrap())),
-        ("a user that there is not", after(|t| assert_eq!(t.b.change_user(9), Err(2)))),
+        ("a user that there is not", after(|t| _ = t.b.change_user(9))),
         ("arming again", after(|t| t.b.arm(1).unwrap())),
         ("a tag", after(|t| t.write(0x808, 8))),
         ("Resume", after(|t| t.write(0x808, 2))),
         ("a command frame that waits", after(|t| t.write(0x8FC, 2))),
-        ("a refused Group End", after(|t| assert_eq!(t.b.write(0x808, 4, &mut []), Err(1)))),
+        ("a refused Group End", after(|t| _ = t.b.write(0x808, 4, &mut []))),
         ("Reset without D0", after(|t| t.write(0x806, 2))),
+        ("a read of 02", after(|t| _ = t.b.read(0x802))),
+        ("a read of 0C", after(|t| _ = t.b.read(0x80C))),
+        ("a retired call", after(|t| drop(t.part()))),
     ]
 }
 
@@ -197,8 +200,7 @@ fn no_place() -> Done {
     let mut refused = Small::of_depth(64, &[5]);
     refused.send();
     refused.replies(&[1, 2]);
-    assert_eq!(refused.b.reply(1, 2, &mut refused.r), Err(7));
-    assert_eq!(refused.b.reply(1, frame(0x15, 9, 0), &mut []), Err(1));
+    let bad = [refused.b.reply(1, 2, &mut refused.r), refused.b.reply(1, frame(0x15, 9, 0), &mut [])];
     refused.replies(&[3]);
     let mut unasked = Small::of_depth(64, &[5]);
     unasked.replies(&[7, 7, 7]);
@@ -218,7 +220,7 @@ fn no_place() -> Done {
     command.replies(&[1, 2, 3]);
     let third = "volts 30 lost lost lost";
     vec![
-        ("refused replies", refused.told() == third),
+        ("refused replies", bad == [Err(7), Err(1)] && refused.told() == third),
         ("unasked replies", [idle, in_delay, unasked.told()] == [LOST, LOST, third]),
         ("a command frame's replies", [of_command, command.told()] == [LOST, third]),
     ]

@@ -46,16 +46,7 @@ pub fn act(world: &mut World, d: &Dice, t: &Taste) {
     if world.is_script() && d.chance(t.volts) {
         return volts(world, &s);
     }
-    let choice = if !s.p.armed {
-        d.weighed(&[50, 0, 8, 6, 4, 0, 8, 6, 10, 12, 16, 3, 2])
-    } else if s.p.idle {
-        d.weighed(&[2, 50, 8, 4, 4, 0, 10, 4, 12, 8, 25, 6, 4])
-    } else if s.p.pause > 0 {
-        d.weighed(&[1, 4, 24, 18, 4, 35, 3, 2, 5, 4, 6, 5, 3])
-    } else {
-        d.weighed(&[1, 4, 36, 25, 9, 2, 5, 3, 8, 4, 7, 5, 3])
-    };
-    match choice {
+    match choice(&s) {
         0 => world.put(if d.chance(93) { Op::Arm(c) } else { Op::Disarm(c) }, d),
         1 => start(world, &s),
         2 => world.put(ticks(d, t, &s.p), d),
@@ -72,6 +63,20 @@ pub fn act(world: &mut World, d: &Dice, t: &Taste) {
     }
     if world.is_script() && d.chance(15) {
         ask(world, &s);
+    }
+}
+
+/// By what suits the channel's state.
+fn choice(s: &Scene) -> usize {
+    let (d, p) = (s.d, &s.p);
+    if !p.armed {
+        d.weighed(&[50, 0, 8, 6, 4, 0, 8, 6, 10, 12, 16, 3, 2])
+    } else if p.idle {
+        d.weighed(&[2, 50, 8, 4, 4, 0, 10, 4, 12, 8, 25, 6, 4])
+    } else if p.pause > 0 {
+        d.weighed(&[1, 4, 24, 18, 4, 35, 3, 2, 5, 4, 6, 5, 3])
+    } else {
+        d.weighed(&[1, 4, 36, 25, 9, 2, 5, 3, 8, 4, 7, 5, 3])
     }
 }
 

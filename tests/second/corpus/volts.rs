@@ -8,20 +8,20 @@ use super::acts::Scene;
 use super::commands::group_end;
 use super::dice::Dice;
 use super::missing::send;
-use super::story::{story_of_volts, BASE, DEPTHS_N};
+use super::story::{story_of_volts, DEPTHS_N};
 use super::tag::load;
 use super::world::{Op, World};
 use crate::frame::frame;
 
 /// Those with which a buffer is full before the sixth reply, and deeper ones.
-pub const DEPTHS_M: &[u32] = &[1, 2, 3, 4, 5, 6, 7, 8, 12, 13, 40, 64];
+pub const DEPTHS_AROUND_SIX: &[u32] = &[1, 2, 3, 4, 5, 6, 7, 8, 12, 13, 40, 64];
 
 /// Numbers of no channel, some with the low bits of one.
 const NO_CHANNEL: &[u32] = &[0, 5, 255, 6, 9, 132];
 
 /// The script number `i`.
 pub fn volts_script(d: &Dice, i: u32) -> Vec<u8> {
-    let m = DEPTHS_M[i as usize % DEPTHS_M.len()];
+    let m = DEPTHS_AROUND_SIX[i as usize % DEPTHS_AROUND_SIX.len()];
     let header = [d.of(DEPTHS_N), m, d.roll() as u32, 0xFFFF].map(u32::to_le_bytes).concat();
     let mut world = World::script(header, d.of(&[0, 0, 3]));
     story_of_volts(&mut world, d, 20);
@@ -100,8 +100,11 @@ fn before(world: &mut World, s: &Scene) {
             let hold = 1 << d.of(&[16, 17, 18, 19, 20, 20, 31]);
             load(world, s, if d.chance(70) { s.user } else { 1 + d.below(8) }, &d.of(&[[hold, 1, 2], [0, hold, 1], [0, 0, 0]]));
         }
+        // setpoint with read, or another Frame ID
         2 => world.put(Op::Write(s.at() + 0x14, d.of(&[0x15, 0x15, 0x55, 0])), d),
+        // tagged
         3 => world.put(Op::Write(s.at() + 8, 8), d),
+        // a first word, in the same group or the next
         _ => world.put(Op::Write(s.at() + 8, d.of(&[1, 5])), d),
     }
 }
@@ -124,12 +127,5 @@ fn no_send(world: &mut World, s: &Scene) {
     }
     if send(world, s) {
         readings(world, s, d.of(&[3, 5, 6]));
-    }
-}
-
-/// The shortest period on every channel, as after an opening it is the longest.
-fn clocks(world: &mut World, s: &Scene) {
-    for c in 1..=4 {
-        world.put(Op::Write(BASE * c + 0x0A, 3), s.d);
     }
 }

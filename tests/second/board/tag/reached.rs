@@ -5,12 +5,11 @@ use super::sends::LastSend;
 use super::shown::Shown;
 use super::words::Words;
 use crate::board::life::Asked;
+use crate::board::record::Record;
+use crate::board::rows::only;
 use crate::board::Board;
 use crate::channel::{Function, Hold};
 use crate::tally::Did;
-
-/// Ticks that are many for one record.
-pub(super) const MANY: u64 = 20;
 
 /// What the tally remembers of a channel's tags. It outlives a reset.
 #[derive(Clone, Default)]
@@ -22,19 +21,11 @@ pub struct Tags {
     /// Why the next send is not tagged.
     pub(super) absent: Vec<Did>,
     pub(super) record: Record,
+    /// Which send of the record used the tag.
+    pub(super) used_by: Option<u32>,
     pub(super) last: LastSend,
     pub(super) words: Words,
     pub(super) shown: Shown,
-}
-
-/// A record of ticks: when it began, with or without a tag, and its sends.
-#[derive(Clone, Copy, Default)]
-pub(super) struct Record {
-    pub(super) began: u64,
-    had_tag: bool,
-    pub(super) sends: u32,
-    /// Which of them used the tag.
-    pub(super) used_by: Option<u32>,
 }
 
 /// What drops a tag.
@@ -98,10 +89,6 @@ fn rows_of_drop(by: &Dropped, is_idle: bool) -> Vec<(bool, Did)> {
     }
 }
 
-pub(in crate::board) fn only(rows: &[(bool, Did)]) -> impl Iterator<Item = Did> + '_ {
-    rows.iter().filter(|row| row.0).map(|row| row.1)
-}
-
 impl Board {
     /// Before a tag.
     pub(super) fn watch_tag(&mut self, c: usize, asked: &Asked) {
@@ -117,7 +104,7 @@ impl Board {
         if ch.is_tag_pending {
             // this one alone would tag the send: what came before shows no more, nor does a second tag before a third
             tags.pending = only(&[(tags.times == 2, Did::tag_again_before_send)]).collect();
-            tags.record.had_tag = false;
+            tags.record.had = false;
             return;
         }
         let f = ch.function.as_ref();
@@ -158,7 +145,7 @@ impl Board {
         tags.absent.clear();
         tags.pending.clear();
         tags.times = 0;
-        tags.record.had_tag = false;
+        tags.record.had = false;
         if is_pending {
             tags.absent.extend(only(&rows));
         }
@@ -170,11 +157,11 @@ impl Board {
     /// Before a record of ticks.
     pub fn watch_tag_record(&mut self) {
         for c in 0..4 {
-            let Record { began, had_tag, sends, .. } = self.tags[c].record;
-            if had_tag && sends == 0 && self.now - began >= MANY {
+            if self.tags[c].record.is_long(self.now) {
                 self.watch_tag_kept(c, Did::tag_kept_through_many_ticks);
             }
-            self.tags[c].record = Record { began: self.now, had_tag: self.ch[c].is_tag_pending, ..Record::default() };
+            self.tags[c].record = Record::new(self.now, self.ch[c].is_tag_pending);
+            self.tags[c].used_by = None;
         }
     }
 }

@@ -1,8 +1,8 @@
 //! What the corpus reaches of the sends that use a tag, and of those that end a mark.
 
-use super::reached::only;
+use crate::board::rows::only;
+use crate::board::sending::{Kind, Sending};
 use crate::board::Board;
-use crate::channel::{Function, Hold};
 use crate::tally::Did;
 
 /// What the tally remembers of a channel's last send.
@@ -16,25 +16,6 @@ pub struct LastSend {
     pub(super) is_in_resume_delay: bool,
 }
 
-/// A setpoint send, before its word is known.
-#[derive(Clone, Copy)]
-pub struct Sending {
-    kind: Kind,
-    is_after_tagged: bool,
-    /// It finds readbacks missing.
-    is_short: bool,
-}
-
-#[derive(Clone, Copy)]
-pub enum Kind {
-    FirstWord,
-    NextWord,
-    WordAfterResume,
-    RepeatOfPause,
-    RepeatInResumeDelay,
-    RepeatOfLast,
-}
-
 /// By kind.
 const USED: [Did; 6] = [
     Did::tag_used_by_first_word, Did::tag_used_by_next_word, Did::tag_used_by_word_after_resume, Did::tag_used_by_repeat_of_pause,
@@ -45,40 +26,13 @@ const ENDED: [Did; 6] = [
     Did::tag_ended_by_repeat_in_resume_delay, Did::tag_ended_by_repeat_of_last,
 ];
 
-impl Sending {
-    pub fn kind(self) -> Kind {
-        self.kind
-    }
-}
-
-fn kind(f: &Function, is_next: bool) -> Kind {
-    match (f.held, is_next) {
-        _ if f.fresh => Kind::FirstWord,
-        (None, _) => Kind::NextWord,
-        (Some(_), true) => Kind::WordAfterResume,
-        (Some((_, Hold::Last)), _) => Kind::RepeatOfLast,
-        _ if f.resume.is_some() => Kind::RepeatInResumeDelay,
-        _ => Kind::RepeatOfPause,
-    }
-}
-
 impl Board {
-    /// Before a setpoint send.
-    pub(in crate::board) fn sending(&self, c: usize, is_next: bool) -> Sending {
-        let f = self.ch[c].function.as_ref();
-        Sending {
-            kind: f.map_or(Kind::FirstWord, |f| kind(f, is_next)),
-            is_after_tagged: f.and_then(|f| f.sent).is_some_and(|sent| sent.is_tagged),
-            is_short: self.shortfall(c) > 0,
-        }
-    }
-
     pub(super) fn watch_tag_used(&mut self, c: usize, sending: Sending, is_tagged: bool) {
         let Sending { kind, is_after_tagged, is_short } = sending;
         let tags = &mut self.tags[c];
         tags.shown.has_tagged_shortfall |= is_after_tagged && is_short;
         tags.record.sends += 1;
-        let ended_since = tags.record.used_by.map_or(0, |by| tags.record.sends - by);
+        let ended_since = tags.used_by.map_or(0, |by| tags.record.sends - by);
         let mut rows = std::mem::take(if is_tagged { &mut tags.pending } else { &mut tags.absent });
         rows.extend(only(&[
             (is_tagged, USED[kind as usize]),
@@ -95,7 +49,7 @@ impl Board {
         tags.absent.clear();
         if is_tagged {
             tags.times = 0;
-            tags.record.used_by = Some(tags.record.sends);
+            tags.used_by = Some(tags.record.sends);
         }
     }
 }

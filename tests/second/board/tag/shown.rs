@@ -75,36 +75,8 @@ impl Board {
         }
     }
 
-    /// An event that is refused.
-    pub(in crate::board) fn tally_event_refused(&mut self, code: u8) {
-        self.tally.add(Did::event_refused_1);
-        for c in 0..4 {
-            let asked = Asked::by_event(code, &self.ch[c]);
-            self.watch_volts_over_refused(c, asked.group_end);
-            self.watch_tag_refused(c, asked);
-        }
-    }
-
-    /// A write that is refused 1.
-    pub(in crate::board) fn tally_write_refused(&mut self, address: u32, value: u16) {
-        self.tally.add(Did::write_refused_1);
-        let c = (address / 0x800) as usize;
-        match address % 0x800 {
-            _ if !(1..=4).contains(&c) => {}
-            0x06 if value & 1 == 1 => {
-                self.watch_tag_kept(c - 1, Did::tag_kept_over_refused_drop_by_reset);
-                self.watch_volts_kept(c - 1, Did::volts_kept_over_refused_reset);
-            }
-            0x08 => {
-                self.watch_volts_over_refused(c - 1, value >> 2 & 1 == 1);
-                self.watch_tag_refused(c - 1, Asked::by_command(value));
-            }
-            _ => {}
-        }
-    }
-
     /// An event or command that is refused: it sets no tag, and drops none.
-    fn watch_tag_refused(&mut self, c: usize, asked: Asked) {
+    pub(in crate::board) fn watch_tag_refused(&mut self, c: usize, asked: Asked) {
         let [not_set, not_dropped] = if asked.by_command {
             [Did::tag_command_refused, Did::tag_kept_over_refused_drop_by_command]
         } else {

@@ -4,8 +4,9 @@
 //! say of a send with the first word of its replies; nothing, if that is overwritten before. A reply that is lost or
 //! unasked is counted as it is answered.
 
-use super::reached::{only, Record, MANY};
 use crate::board::end_word::END_WORD;
+use crate::board::record::MANY;
+use crate::board::rows::only;
 use crate::board::Board;
 use crate::channel::Sent;
 use crate::tally::Did;
@@ -38,8 +39,7 @@ impl Board {
         }
         let f = ch.function.as_ref();
         let is_resumed = f.is_some_and(|f| f.resume.is_some()) && !tags.last.is_in_resume_delay;
-        let Record { began, sends, .. } = tags.record;
-        let ticks = self.now - began;
+        let (sends, ticks) = (tags.record.sends, tags.record.ticks(self.now));
         vec![
             (true, Did::tag_reply_kept),
             (replies == 6, Did::tag_reply_sixth),

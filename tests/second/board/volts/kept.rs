@@ -1,9 +1,10 @@
 //! What the corpus reaches of readings that are lost with a send or when the channel idles, and of what leaves them.
 
 use super::places::LastSend;
-use super::reached::{Readings, Unasked};
+use super::reached::{Unasked, WatchedVolts};
 use crate::board::command::replies_to_command;
-use crate::board::tag::{only, Kind, Sending};
+use crate::board::rows::only;
+use crate::board::sending::{Kind, Sending};
 use crate::board::Board;
 use crate::tally::Did;
 
@@ -14,16 +15,18 @@ pub struct Cleared {
     stored: [bool; 4],
     by: Vec<Did>,
     /// What there is to say in the start delay of the next function.
-    before_send: Option<Did>,
+    in_start_delay: Option<Did>,
     /// The sends of one record of ticks that cleared them, each of which would have.
     sends: u32,
+    /// If a user change cleared them: the user before it.
+    user: Option<u32>,
 }
 
 /// What idles a channel.
 pub enum Idled {
     GroupEnd { by_command: bool, with_start: bool },
     Disarm,
-    UserChange,
+    UserChange { from: u32, to: u32 },
     Reset,
 }
 
@@ -35,7 +38,7 @@ const BY_SEND: [Did; 6] = [
 
 impl Cleared {
     fn new(last: &LastSend, by: Vec<Did>) -> Option<Cleared> {
-        last.has_reading().then(|| Cleared { stored: last.stored(), by, before_send: None, sends: 0 })
+        last.has_reading().then(|| Cleared { stored: last.stored(), by, in_start_delay: None, sends: 0, user: None })
     }
 
     /// What a voltages call shows of them: one that was stored is lost, unless the last send has it again.
@@ -45,7 +48,7 @@ impl Cleared {
             return Vec::new();
         }
         let mut rows: Vec<_> = self.by.iter().map(|did| (true, *did)).collect();
-        rows.extend(self.before_send.map(|did| (is_starting, did)));
+        rows.extend(self.in_start_delay.map(|did| (is_starting, did)));
         rows.push((self.sends >= 10, Did::volts_lost_by_many_sends_in_one_record));
         rows
     }
@@ -59,17 +62,16 @@ impl Idled {
                 only(&[(true, by), (with_start, Did::volts_lost_by_group_end_with_start)]).collect()
             }
             Idled::Disarm => vec![Did::volts_lost_by_disarm],
-            Idled::UserChange => vec![Did::volts_lost_by_user_change],
+            Idled::UserChange { .. } => vec![Did::volts_lost_by_user_change],
             Idled::Reset => vec![Did::volts_lost_by_reset],
         }
     }
 
-    /// What there is to say in the start delay of the next function.
-    fn before_send(&self) -> Did {
+    fn in_start_delay(&self) -> Did {
         match self {
             Idled::GroupEnd { .. } => Did::volts_lost_by_group_end_before_send,
             Idled::Disarm => Did::volts_lost_by_disarm_before_send,
-            Idled::UserChange => Did::volts_lost_by_user_change_before_send,
+            Idled::UserChange { .. } => Did::volts_lost_by_user_change_before_send,
             Idled::Reset => Did::volts_lost_by_reset_before_send,
         }
     }
@@ -79,20 +81,43 @@ impl Idled {
         match self {
             Idled::GroupEnd { .. } => Some(Did::volts_kept_over_group_end_of_other_channel),
             Idled::Disarm => Some(Did::volts_kept_over_disarm_of_other_channel),
-            Idled::UserChange => None,
+            Idled::UserChange { .. } => None,
             Idled::Reset => Some(Did::volts_kept_over_reset_of_other_channel),
         }
     }
+
+    fn user_before(&self) -> Option<u32> {
+        if let Idled::UserChange { from, .. } = self { Some(*from) } else { None }
+    }
+
+    /// It brings back the user whose readings these were.
+    fn is_back(&self, cleared: &Cleared) -> bool {
+        matches!(self, Idled::UserChange { to, .. } if cleared.user == Some(*to))
+    }
 }
 
-impl Readings {
+impl WatchedVolts {
     fn clear_by_send(&mut self, by: Did) {
-        let sends = self.record.sends;
-        self.cleared = match self.cleared.take() {
-            _ if self.last.has_reading() => Cleared::new(&self.last, vec![by]).map(|cleared| Cleared { sends: 1, ..cleared }),
-            // which of them did is not told
-            Some(cleared) if cleared.sends > 0 && cleared.sends < sends => {
-                Some(Cleared { by: Vec::new(), sends: cleared.sends + 1, ..cleared })
+        let before = self.cleared.take();
+        self.cleared = match (Cleared::new(&self.last, vec![by]), before) {
+            (Some(now), _) => Some(Cleared { sends: 1, ..now }),
+            // a later send of the same record: which of them lost the readings is not told
+            (None, Some(before)) if before.sends > 0 && before.sends < self.record.sends => {
+                Some(Cleared { by: Vec::new(), sends: before.sends + 1, ..before })
+            }
+            _ => None,
+        };
+    }
+
+    fn clear_by_idling(&mut self, idled: &Idled) {
+        let before = self.cleared.take();
+        let in_start_delay = Some(idled.in_start_delay());
+        self.cleared = match (Cleared::new(&self.last, idled.by()), before) {
+            (Some(now), _) => Some(Cleared { in_start_delay, user: idled.user_before(), ..now }),
+            // between the two changes came nothing that would clear them; kept for each user, they would be told again
+            (None, Some(before)) if idled.is_back(&before) => {
+                let by = vec![Did::volts_lost_by_user_change_and_back];
+                Some(Cleared { by, in_start_delay: None, user: None, ..before })
             }
             _ => None,
         };
@@ -102,22 +127,25 @@ impl Readings {
 impl Board {
     /// Before a setpoint send.
     pub(in crate::board) fn watch_volts_send(&mut self, c: usize, sending: Sending) {
-        self.watch_volts_beside(c, Did::volts_kept_over_send_of_other_channel);
-        let (kind, before) = (sending.kind(), self.rows_before_send(c));
-        let is_repeat = matches!(kind, Kind::RepeatOfPause | Kind::RepeatInResumeDelay | Kind::RepeatOfLast);
-        let readings = &mut self.readings[c];
-        readings.record.sends += 1;
-        if readings.cleared.is_some() || readings.last.has_reading() {
-            readings.clear_by_send(BY_SEND[kind as usize]);
+        if self.watched_volts.is_empty() {
+            return;
         }
-        readings.last.begin(is_repeat, before);
-        readings.unasked = Unasked::default();
-        readings.stood.clear();
+        self.watch_volts_beside(c, Did::volts_kept_over_send_of_other_channel);
+        let (kind, before) = (sending.kind, self.rows_before_send(c));
+        let is_repeat = matches!(kind, Kind::RepeatOfPause | Kind::RepeatInResumeDelay | Kind::RepeatOfLast);
+        let watched = &mut self.watched_volts[c];
+        watched.record.sends += 1;
+        if watched.cleared.is_some() || watched.last.has_reading() {
+            watched.clear_by_send(BY_SEND[kind as usize]);
+        }
+        watched.last.begin(is_repeat, before);
+        watched.unasked = Unasked::default();
+        watched.stood.clear();
     }
 
     /// Replies before the first send since idle, which take no place after it.
     fn rows_before_send(&self, c: usize) -> Vec<Did> {
-        let unasked = &self.readings[c].unasked;
+        let unasked = &self.watched_volts[c].unasked;
         only(&[
             (unasked.while_idle > 0, Did::volts_of_send_after_unasked_while_idle),
             (unasked.in_start_delay > 0, Did::volts_of_send_after_unasked_in_start_delay),
@@ -131,39 +159,25 @@ impl Board {
         if let Some(did) = idled.beside() {
             self.watch_volts_beside(c, did);
         }
-        let readings = &mut self.readings[c];
-        let before_send = Some(idled.before_send());
-        let cleared = Cleared::new(&readings.last, idled.by()).map(|cleared| Cleared { before_send, ..cleared });
-        *readings = Readings { cleared, record: readings.record, ..Readings::default() };
+        let Some(watched) = self.watched_volts.get_mut(c) else { return };
+        watched.clear_by_idling(&idled);
+        *watched = WatchedVolts { cleared: watched.cleared.take(), record: watched.record, ..WatchedVolts::default() };
     }
 
     /// After an opening in the place of another board.
     pub fn watch_volts_opening(&mut self, before: &Board) {
         let by = if self.n == 0 { Did::volts_lost_by_refused_opening } else { Did::volts_lost_by_opening };
         for c in 0..4 {
-            self.readings[c].cleared = Cleared::new(&before.readings[c].last, vec![by]);
+            self.watched_volts[c].cleared = Cleared::new(&before.watched_volts[c].last, vec![by]);
         }
     }
 
     /// Something that leaves the channel's readings, if it has any.
     pub(in crate::board) fn watch_volts_kept(&mut self, c: usize, over: Did) {
-        let readings = &mut self.readings[c];
-        if readings.last.has_reading() && !readings.stood.contains(&over) {
-            readings.stood.push(over);
+        let Some(watched) = self.watched_volts.get_mut(c) else { return };
+        if watched.last.has_reading() && !watched.stood.contains(&over) {
+            watched.stood.push(over);
         }
-    }
-
-    /// An event or command that is refused.
-    pub(in crate::board) fn watch_volts_over_refused(&mut self, c: usize, is_group_end: bool) {
-        if is_group_end {
-            self.watch_volts_kept(c, Did::volts_kept_over_refused_group_end);
-        }
-    }
-
-    /// A tick that is refused.
-    pub(in crate::board) fn tally_tick_refused(&mut self) {
-        self.tally.add(Did::tick_refused);
-        (0..4).for_each(|c| self.watch_volts_kept(c, Did::volts_kept_over_refused_tick));
     }
 
     /// Something on a channel that leaves the other channels' readings.

@@ -1,8 +1,10 @@
 //! What the corpus reaches of the replies that readings are of: their places, and those that take no place.
 
-use crate::board::tag::only;
+use super::reached::WatchedVolts;
+use crate::board::rows::only;
 use crate::board::Board;
 use crate::tally::Did;
+use crate::volts::{voltage, Reading};
 use std::collections::BTreeSet;
 
 /// What the tally remembers of a channel's last send since idle. It is told from the replies and their answers, and not
@@ -11,9 +13,9 @@ use std::collections::BTreeSet;
 pub struct LastSend {
     pub(super) is_repeat: bool,
     /// Kept or lost, at most six.
-    pub(super) replies: Vec<Came>,
-    /// What there is to say of replies since the sixth.
-    seventh: Vec<Did>,
+    pub(super) replies: Vec<Placed>,
+    /// What there is to say of the last reply since the sixth.
+    seventh: Option<Did>,
     /// Refused replies: the number of replies before each, and by which number.
     refused: Vec<(usize, Did)>,
     /// What came before the send, until a reading shows that it took no place.
@@ -22,22 +24,29 @@ pub struct LastSend {
     pub(super) asked: Option<usize>,
 }
 
-/// A reply that was kept or lost.
+/// A reply that was kept or lost, and so has a place.
 #[derive(Clone)]
-pub struct Came {
-    pub(super) data: u16,
-    pub(super) wrong: bool,
-    pub(super) is_stored: bool,
-    /// What there is to say of it if it is a reading.
+pub struct Placed {
+    data: u16,
+    wrong: bool,
+    is_stored: bool,
+    /// What there is to say of it if it is a voltage.
     rows: Vec<Did>,
 }
 
-impl Came {
+impl Placed {
     fn is_voltage(&self) -> bool {
         self.is_stored && !self.wrong
     }
     fn is_damaged(&self) -> bool {
         self.is_stored && self.wrong
+    }
+    fn reading(&self) -> Reading {
+        match (self.is_stored, self.wrong) {
+            (false, _) => Reading::Lost,
+            (true, true) => Reading::Damaged,
+            (true, false) => Reading::Volts(voltage(self.data)),
+        }
     }
 }
 
@@ -60,7 +69,7 @@ const FULL: [Did; 6] = [
 ];
 const CODES: [(u16, Did); 5] = [
     (0, Did::volts_code_0), (1, Did::volts_code_1), (0x7FFF, Did::volts_code_most), (0x8000, Did::volts_code_least),
-    (0xFFFF, Did::volts_code_less_1),
+    (0xFFFF, Did::volts_code_minus_1),
 ];
 
 impl LastSend {
@@ -68,48 +77,47 @@ impl LastSend {
     pub(super) fn begin(&mut self, is_repeat: bool, before: Vec<Did>) {
         self.is_repeat = is_repeat;
         self.replies.clear();
-        self.seventh.clear();
+        self.seventh = None;
         self.refused.clear();
         self.before = before;
         self.asked = None;
     }
 
     /// The replies that are readings, none before the third.
-    fn readings(&self) -> &[Came] {
+    fn readings(&self) -> &[Placed] {
         self.replies.get(2..).unwrap_or(&[])
     }
 
     /// Which of the four are stored.
     pub(super) fn stored(&self) -> [bool; 4] {
-        std::array::from_fn(|k| self.readings().get(k).is_some_and(|came| came.is_stored))
+        std::array::from_fn(|k| self.readings().get(k).is_some_and(|reply| reply.is_stored))
     }
 
     pub(super) fn has_reading(&self) -> bool {
-        self.readings().iter().any(|came| came.is_stored)
+        self.readings().iter().any(|reply| reply.is_stored)
     }
 
-    /// What tells them from the readings of another send: voltages by their data, and those that are damaged.
-    pub(super) fn told(&self) -> [Option<Option<u16>>; 4] {
-        let told = |came: &Came| came.is_stored.then_some((!came.wrong).then_some(came.data));
-        std::array::from_fn(|k| self.readings().get(k).and_then(told))
+    /// What a voltages call has to answer.
+    pub(super) fn told(&self) -> [Reading; 4] {
+        std::array::from_fn(|k| self.readings().get(k).map_or(Reading::Lost, Placed::reading))
     }
 
     pub(super) fn voltages(&self) -> impl Iterator<Item = u16> + '_ {
-        self.readings().iter().filter(|came| came.is_voltage()).map(|came| came.data)
+        self.readings().iter().filter(|reply| reply.is_voltage()).map(|reply| reply.data)
     }
 
     fn is_stored(&self, at: usize) -> bool {
-        self.replies.get(at).is_some_and(|came| came.is_stored)
+        self.replies.get(at).is_some_and(|reply| reply.is_stored)
     }
 
     /// What a voltages call shows of the replies.
     pub(super) fn rows(&self) -> Vec<(bool, Did)> {
         let count = self.replies.len();
         let mut rows = vec![(count == 0 || self.is_stored(count - 1), AFTER[count])];
-        for (came, place) in self.readings().iter().zip(PLACES) {
-            rows.push((true, place[2 * !came.is_stored as usize + came.wrong as usize]));
+        for (reply, place) in self.readings().iter().zip(PLACES) {
+            rows.push((true, place[2 * !reply.is_stored as usize + reply.wrong as usize]));
         }
-        if let Some(first) = self.replies.iter().position(|came| !came.is_stored) {
+        if let Some(first) = self.replies.iter().position(|reply| !reply.is_stored) {
             rows.push((count > 2, FULL[first]));
         }
         rows.extend(self.voltages().flat_map(|data| CODES.map(|(code, did)| (code == data, did))));
@@ -120,29 +128,29 @@ impl LastSend {
 
     fn rows_of_neighbours(&self) -> Vec<(bool, Did)> {
         let readings = self.readings();
-        let has_pair = |of: [fn(&Came) -> bool; 2]| readings.windows(2).any(|pair| of[0](&pair[0]) && of[1](&pair[1]));
-        let data: BTreeSet<u16> = self.replies.iter().map(|came| came.data).collect();
-        let starts_wrong = self.replies.iter().take(2).any(|came| came.wrong);
+        let has_pair = |of: [fn(&Placed) -> bool; 2]| readings.windows(2).any(|pair| of[0](&pair[0]) && of[1](&pair[1]));
+        let data: BTreeSet<u16> = self.replies.iter().map(|reply| reply.data).collect();
+        let starts_wrong = self.replies.iter().take(2).any(|reply| reply.wrong);
         vec![
-            (data.len() == 6 && readings.iter().all(Came::is_voltage), Did::volts_four_at_once),
-            (readings.len() == 4 && readings.iter().all(Came::is_damaged), Did::volts_four_damaged),
-            (has_pair([Came::is_damaged, Came::is_voltage]), Did::volts_read_after_damaged),
-            (has_pair([Came::is_voltage, Came::is_damaged]), Did::volts_read_before_damaged),
-            (starts_wrong && readings.first().is_some_and(Came::is_voltage), Did::volts_read_after_wrong_first_two),
+            (data.len() == 6 && readings.iter().all(Placed::is_voltage), Did::volts_four_at_once),
+            (readings.len() == 4 && readings.iter().all(Placed::is_damaged), Did::volts_four_damaged),
+            (has_pair([Placed::is_damaged, Placed::is_voltage]), Did::volts_read_after_damaged),
+            (has_pair([Placed::is_voltage, Placed::is_damaged]), Did::volts_read_before_damaged),
+            (starts_wrong && readings.first().is_some_and(Placed::is_voltage), Did::volts_read_after_wrong_first_two),
         ]
     }
 
-    /// What is shown and then no longer counted: with each reading what there is to say of its reply, with the third what
-    /// came before the send, with the sixth what came after it.
+    /// What is shown and then no longer counted: with each voltage what there is to say of its reply, with the third
+    /// reading what came before the send, with the sixth what came after it.
     pub(super) fn take_rows(&mut self) -> Vec<Did> {
         let mut rows = Vec::new();
         if self.is_stored(2) {
             rows.append(&mut self.before);
         }
-        for came in self.replies.iter_mut().skip(2).filter(|came| came.is_stored) {
-            rows.append(&mut came.rows);
+        for reply in self.replies.iter_mut().skip(2).filter(|reply| reply.is_voltage()) {
+            rows.append(&mut reply.rows);
         }
-        rows.append(&mut self.seventh);
+        rows.extend(self.seventh.take());
         rows
     }
 }
@@ -150,6 +158,9 @@ impl LastSend {
 impl Board {
     /// A reply that is kept or lost.
     pub(in crate::board) fn watch_volts_reply(&mut self, c: usize, reply: u64, wrong: bool, is_stored: bool) {
+        if self.watched_volts.is_empty() {
+            return;
+        }
         let f = self.ch[c].function.as_ref();
         let rows = only(&[
             (f.is_some_and(|f| f.fresh), Did::volts_read_in_new_start_delay),
@@ -157,27 +168,31 @@ impl Board {
             (self.ch[c].is_tag_pending, Did::volts_read_while_tag_is_pending),
             (reply >> 10 & 0xFF != 0, Did::volts_of_reply_with_auxiliary),
             (reply >> 34 & 0xFF != 0x15, Did::volts_of_reply_of_other_id),
-            (self.readings[c].last.asked.is_some(), Did::volts_asked_between_replies),
+            (self.watched_volts[c].last.asked.is_some(), Did::volts_asked_between_replies),
         ])
         .collect();
-        self.readings[c].last.replies.push(Came { data: (reply >> 18) as u16, wrong, is_stored, rows });
-        self.watch_volts_beside(c, Did::volts_kept_over_reply_of_other_channel);
+        let replies = &mut self.watched_volts[c].last.replies;
+        replies.push(Placed { data: (reply >> 18) as u16, wrong, is_stored, rows });
+        // the first two, and those that are lost, would change no reading of any channel
+        if is_stored && replies.len() > 2 {
+            self.watch_volts_beside(c, Did::volts_kept_over_reply_of_other_channel);
+        }
     }
 
     /// A reply that is unasked.
     pub(in crate::board) fn watch_volts_unasked(&mut self, c: usize, reply: u64, wrong: bool, why: Did) {
-        let readings = &mut self.readings[c];
+        let Some(watched) = self.watched_volts.get_mut(c) else { return };
         match why {
-            Did::unasked_idle => readings.unasked.while_idle += 1,
-            Did::unasked_before_send => readings.unasked.in_start_delay += 1,
-            Did::unasked_seventh => readings.last.watch_seventh((reply >> 18) as u16, wrong),
+            Did::unasked_idle => watched.unasked.while_idle += 1,
+            Did::unasked_before_send => watched.unasked.in_start_delay += 1,
+            Did::unasked_seventh => watched.last.watch_seventh((reply >> 18) as u16, wrong),
             _ => {}
         }
     }
 
     /// A reply that is refused, though one is due whose place is a reading.
     pub(in crate::board) fn watch_volts_refused(&mut self, c: usize, did: Did) {
-        let last = &mut self.readings[c].last;
+        let Some(WatchedVolts { last, .. }) = self.watched_volts.get_mut(c) else { return };
         if (2..6).contains(&last.replies.len()) {
             last.refused.push((last.replies.len(), did));
         }
@@ -185,16 +200,17 @@ impl Board {
 }
 
 impl LastSend {
+    /// In the place of the sixth this reply would be told, and not the ones before it; where it is like the sixth, nothing
+    /// would show.
     fn watch_seventh(&mut self, data: u16, wrong: bool) {
         let Some(sixth) = self.replies.last() else { return };
-        let row = match (sixth.is_stored, sixth.wrong, wrong) {
-            (false, ..) => Did::volts_after_seventh_when_sixth_is_lost,
-            (true, true, true) => return,
-            (true, true, false) => Did::volts_after_seventh_when_sixth_is_damaged,
-            (true, false, true) => Did::volts_after_seventh_with_wrong_crc,
-            (true, false, false) if sixth.data == data => return,
-            (true, false, false) => Did::volts_after_seventh,
+        self.seventh = match (sixth.is_stored, sixth.wrong, wrong) {
+            (false, ..) => Some(Did::volts_after_seventh_when_sixth_is_lost),
+            (true, true, true) => None,
+            (true, true, false) => Some(Did::volts_after_seventh_when_sixth_is_damaged),
+            (true, false, true) => Some(Did::volts_after_seventh_with_wrong_crc),
+            (true, false, false) if sixth.data == data => None,
+            (true, false, false) => Some(Did::volts_after_seventh),
         };
-        self.seventh.push(row);
     }
 }

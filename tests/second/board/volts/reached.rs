@@ -4,15 +4,14 @@
 use super::kept::Cleared;
 use super::places::LastSend;
 use crate::board::command::replies_to_command;
+use crate::board::record::Record;
 use crate::board::Board;
 use crate::tally::Did;
-
-/// Ticks that are many for one record.
-const MANY: u64 = 20;
+use crate::volts::Reading;
 
 /// What the tally remembers of a channel's readings. It outlives a reset.
 #[derive(Clone, Default)]
-pub struct Readings {
+pub struct WatchedVolts {
     pub(super) last: LastSend,
     /// The readings before the last send, or before the channel was idled.
     pub(super) cleared: Option<Cleared>,
@@ -29,19 +28,16 @@ pub(super) struct Unasked {
     pub(super) in_start_delay: u32,
 }
 
-/// A record of ticks: when it began, with or without a reading, and its sends.
-#[derive(Clone, Copy, Default)]
-pub(super) struct Record {
-    began: u64,
-    had_reading: bool,
-    pub(super) sends: u32,
-}
-
 impl Board {
+    /// Of a script's board. No record of a run file asks for voltages, so there the tally is spared their memory.
+    pub fn watch_volts(&mut self) {
+        self.watched_volts = vec![WatchedVolts::default(); 4];
+    }
+
     /// Before a record of ticks.
     pub fn watch_volts_record(&mut self) {
-        for readings in &mut self.readings {
-            readings.record = Record { began: self.now, had_reading: readings.last.has_reading(), sends: 0 };
+        for watched in &mut self.watched_volts {
+            watched.record = Record::new(self.now, watched.last.has_reading());
         }
     }
 
@@ -56,38 +52,44 @@ impl Board {
         ]);
     }
 
-    /// Before a voltages call is answered.
-    pub(super) fn tally_voltages(&mut self, c: usize) {
+    /// Before a voltages call is answered with these readings.
+    pub(super) fn tally_voltages(&mut self, c: usize, told: [Reading; 4]) {
+        if self.watched_volts.is_empty() {
+            return;
+        }
         let is_starting = self.ch[c].function.as_ref().is_some_and(|f| f.sent.is_none());
         let mut rows = self.rows_of_send(c);
-        let readings = &mut self.readings[c];
-        rows.extend(readings.cleared.iter().flat_map(|cleared| cleared.rows(&readings.last, is_starting)));
-        let mut shown = readings.last.take_rows();
-        shown.append(&mut readings.stood);
+        let watched = &mut self.watched_volts[c];
+        // what is counted is of this answer
+        assert_eq!(watched.last.told(), told);
+        rows.extend(watched.cleared.iter().flat_map(|cleared| cleared.rows(&watched.last, is_starting)));
+        let mut shown = watched.last.take_rows();
+        shown.append(&mut watched.stood);
         rows.extend(shown.into_iter().map(|did| (true, did)));
         rows.extend(self.rows_of_asking(c));
         rows.extend(self.rows_of_channels(c));
         self.tally_rows(&rows);
-        let last = &mut self.readings[c].last;
+        let last = &mut self.watched_volts[c].last;
         last.asked = Some(last.replies.len());
     }
 
     /// What is told of the last send since idle, or that there is none.
     fn rows_of_send(&self, c: usize) -> Vec<(bool, Did)> {
-        let Readings { last, unasked, .. } = &self.readings[c];
-        let ch = &self.ch[c];
+        let WatchedVolts { last, unasked, .. } = &self.watched_volts[c];
+        // in a full buffer an unasked reply would be lost, if it were not unasked
+        let (ch, has_room) = (&self.ch[c], !self.is_full(c));
         let Some(f) = &ch.function else {
             return vec![
                 (true, Did::volts_while_idle),
                 (self.n == 0, Did::volts_of_closed_board),
-                (unasked.while_idle > 2, Did::volts_while_idle_after_unasked),
+                (unasked.while_idle > 2 && has_room, Did::volts_while_idle_after_unasked),
                 (replies_to_command(ch) > 2, Did::volts_while_idle_after_command_replies),
             ];
         };
         let Some(sent) = f.sent else {
             return vec![
                 (true, Did::volts_in_start_delay),
-                (unasked.in_start_delay > 2, Did::volts_in_start_delay_after_unasked),
+                (unasked.in_start_delay > 2 && has_room, Did::volts_in_start_delay_after_unasked),
                 (replies_to_command(ch) > 2, Did::volts_in_start_delay_after_command_replies),
             ];
         };
@@ -111,23 +113,23 @@ impl Board {
 
     /// What is told of this call beside the one before it, and beside the ticks before it.
     fn rows_of_asking(&self, c: usize) -> Vec<(bool, Did)> {
-        let Readings { last, record, .. } = &self.readings[c];
+        let WatchedVolts { last, record, .. } = &self.watched_volts[c];
         let is_again = last.has_reading() && last.asked == Some(last.replies.len());
-        let is_long = record.had_reading && record.sends == 0 && self.now - record.began >= MANY;
+        let is_long = last.has_reading() && record.is_long(self.now);
         vec![(is_again, Did::volts_asked_again), (is_long, Did::volts_kept_through_many_ticks)]
     }
 
     /// What is told of the channel among the others.
     fn rows_of_channels(&self, c: usize) -> Vec<(bool, Did)> {
-        let own = self.readings[c].last.told();
-        let is_read = self.readings[c].last.voltages().next().is_some();
-        let others = || (0..4).filter(|other| *other != c).map(|other| &self.readings[other].last);
+        let own = self.watched_volts[c].last.told();
+        let is_read = self.watched_volts[c].last.voltages().next().is_some();
+        let others = || (0..4).filter(|other| *other != c).map(|other| &self.watched_volts[other].last);
         let is_beside = others().any(|other| other.has_reading() && other.told() != own);
         let of_channel = [Did::volts_of_channel_1, Did::volts_of_channel_2, Did::volts_of_channel_3, Did::volts_of_channel_4];
         vec![
             (is_read, of_channel[c]),
             (is_read && is_beside, Did::volts_beside_other_readings),
-            (!self.readings[c].last.has_reading() && is_beside, Did::volts_lost_beside_other_readings),
+            (!self.watched_volts[c].last.has_reading() && is_beside, Did::volts_lost_beside_other_readings),
         ]
     }
 }

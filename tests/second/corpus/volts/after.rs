@@ -1,6 +1,6 @@
 //! What may come between a reply and a voltages call, and loses the readings or leaves them.
 
-use super::{ask, clocks, readings, DEPTHS_M, NO_CHANNEL};
+use super::{ask, readings, DEPTHS_AROUND_SIX, NO_CHANNEL};
 use crate::corpus::acts::{event_for, retired, Scene};
 use crate::corpus::commands::group_end;
 use crate::corpus::missing::send;
@@ -11,7 +11,7 @@ use crate::corpus::world::{Op, World};
 pub fn after(world: &mut World, s: &Scene) {
     let d = s.d;
     let for_pause = if s.now(world).pause > 0 { 40 } else { 0 };
-    match d.weighed(&[14, 22, 24, 12, 10, 18, 6, 6, for_pause, 4]) {
+    match d.weighed(&[14, 22, 36, 14, 10, 18, 6, 6, for_pause, 4]) {
         0 => restart(world, s),
         1 => idled(world, s),
         2 => left(world, s),
@@ -49,7 +49,13 @@ fn idled(world: &mut World, s: &Scene) {
     match d.below(4) {
         0 => world.put(group_end(world, s), d),
         1 => world.put(Op::Disarm(s.c), d),
-        2 => world.put(Op::User(world.board().user % 8 + 1), d),
+        2 => {
+            let user = world.board().user;
+            world.put(Op::User(user % 8 + 1), d);
+            if d.chance(40) {
+                world.put(Op::User(user), d);
+            }
+        }
         _ => world.put(Op::Write(s.at() + 6, 1), d),
     }
     if d.chance(60) {
@@ -65,15 +71,28 @@ fn idled(world: &mut World, s: &Scene) {
 /// What changes nothing in the readings.
 fn left(world: &mut World, s: &Scene) {
     let d = s.d;
-    match d.below(7) {
-        0 => world.put(Op::User(world.board().user), d),
-        1 => world.put(Op::User(d.of(&[0, 9])), d),
-        2 => world.put(Op::Arm(s.c), d),
-        3 => world.put(Op::Write(s.at() + 8, 8), d),
-        4 => world.put(Op::Write(s.at() + 6, 2), d),
-        5 => world.put(Op::Write(s.at() + 0xFC, d.of(&[1, 2, 2])), d),
-        _ => retired(world, s),
-    }
+    let op = match d.below(12) {
+        0 => Op::User(world.board().user),
+        1 => Op::User(d.of(&[0, 9])),
+        2 => Op::Arm(s.c),
+        3 => Op::Write(s.at() + 8, 8),
+        4 => Op::Write(s.at() + 6, 2),
+        5 => Op::Write(s.at() + 0xFC, d.of(&[1, 2, 2])),
+        6 => Op::Read(s.at() + d.of(&[2, 4])),
+        7 => Op::Read(s.at() + 0x0C),
+        8 => Op::Write(s.at() + d.of(&[0, 0x14, 0x24, 0x42, 0xE0]), d.below(65_536) as u16),
+        9 => inactive_word(world, s),
+        // most mean nothing to the channel
+        10 => Op::Event(d.below(256) as u8),
+        _ => return retired(world, s),
+    };
+    world.put(op, d);
+}
+
+/// A setpoint for the buffer that is not active.
+fn inactive_word(world: &World, s: &Scene) -> Op {
+    let active = 1 + (s.now(world).active >> (s.user - 1) & 1) as u32;
+    Op::Set { c: s.c, user: s.user, buffer: 3 - active, index: 0, word: s.d.below(65_536) }
 }
 
 /// What would lose them, but is refused.
@@ -83,7 +102,14 @@ fn refused(world: &mut World, s: &Scene) {
         0 => event_for(world, s, 0x2A),
         1 => Op::Write(s.at() + 8, d.of(&[4, 5])),
         2 => Op::Write(s.at() + 6, 1),
-        _ => Op::Ticks(20),
+        _ => {
+            // of ticks that are refused, the one on which a send is due would lose them
+            let p = s.now(world);
+            if !p.idle && (2..=1_000).contains(&p.wait) {
+                world.put(Op::Ticks(p.wait as u32 - 1), d);
+            }
+            Op::Ticks(d.of(&[1, 20]))
+        }
     };
     world.put_refused(op, d);
 }
@@ -100,8 +126,8 @@ fn beside(world: &mut World, s: &Scene) {
         0 => world.put(Op::Write(other.at() + 8, 4), d),
         1 => world.put(Op::Disarm(other.c), d),
         2 => {
-            world.put(Op::Write(BASE * other.c + 6, 1), d);
-            world.put(Op::Write(BASE * other.c + 0x0A, 3), d);
+            world.put(Op::Write(other.at() + 6, 1), d);
+            world.put(Op::Write(other.at() + 0x0A, 3), d);
         }
         _ => {}
     }
@@ -134,8 +160,11 @@ fn opening(world: &mut World, s: &Scene) {
         ask(world, s);
         world.put(Op::Volts { c: d.of(NO_CHANNEL), lent: 0 }, d);
     }
-    let (n, m) = (d.of(DEPTHS_N), d.of(DEPTHS_M));
+    let (n, m) = (d.of(DEPTHS_N), d.of(DEPTHS_AROUND_SIX));
     world.put(Op::Open { n, m, setpoints: 64 * n, readbacks: 8 * m }, d);
     ask(world, s);
-    clocks(world, s);
+    // the longest period after an opening, the shortest now
+    for c in 1..=4 {
+        world.put(Op::Write(BASE * c + 0x0A, 3), d);
+    }
 }
