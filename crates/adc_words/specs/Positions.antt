@@ -3,13 +3,13 @@
 use Prim.Native.Nat.{ℕ}
 use mathlib.Core.Bool.{Bool, cond}
 use mathlib.Core.List.{List}
-use lib.Dec.{eqb}
+use lib.Dec.{eqb, ltb}
 use lib.ListN.{getD}
 use Rattle.adc_words.specs.declared.AdcWord.{AdcWord}
 use Rattle.adc_words.specs.declared.AdcWord.the-variants as word
 use Rattle.adc_words.specs.declared.AdcWords.{AdcWords}
 
--- "all four are lost": of a send with no reply yet, and with no send
+-- "all four are lost"
 abbrev pub allLost : AdcWords
 allLost = record { third = word.Lost; fourth = word.Lost; fifth = word.Lost; sixth = word.Lost }
 
@@ -27,7 +27,17 @@ withReply w before a =
       sixth = cond (eqb before 5) a (w .sixth);
     }
 
--- the ADC words of a send by what became of the replies after it, in order; what has not come is lost
+-- the ADC words of a send that got so many replies: a reply that has not come is lost, and what stands in its place is of an earlier send
+unfoldable pub arrived : AdcWords → (replies : ℕ) → AdcWords
+arrived w replies =
+    record {
+      third = cond (ltb 2 replies) (w .third) word.Lost;
+      fourth = cond (ltb 3 replies) (w .fourth) word.Lost;
+      fifth = cond (ltb 4 replies) (w .fifth) word.Lost;
+      sixth = cond (ltb 5 replies) (w .sixth) word.Lost;
+    }
+
+-- those of a send by what became of the replies after it, in order; what has not come is lost
 abbrev pub wordsOf : List AdcWord → AdcWords
 wordsOf replies =
     record {

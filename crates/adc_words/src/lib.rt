@@ -1,7 +1,8 @@
-// The ADC words of a send, its third to sixth replies: what became of each.
+// The ADC words of a send, its third to sixth replies: what became of each. A send need not clear those of the send before: they count only as far as replies
+// have come.
 ghost use mathlib.Core.Path.{_≡_};
 ghost use mathlib.Core.Bool.{cond};
-ghost use Rattle.adc_words.specs.Positions.{allLost, adcWord, withReply};
+ghost use Rattle.adc_words.specs.Positions.{allLost, adcWord, withReply, arrived};
 
 pub enum AdcWord {
     // The reply has not come, or was not stored.
@@ -32,11 +33,11 @@ pub fn adc_word(stored: bool, right: bool, data: u16) -> AdcWord
     AdcWord::Lost
 }
 
-// The word at a position: the new one where the reply is the one of that position.
-fn replaced(old: AdcWord, here: bool, new: AdcWord) -> AdcWord
-    ensures { λ r. ⌜ r ≡ cond here new old ⌝ }
+// One of two words, for a position.
+fn select(first: bool, one: AdcWord, other: AdcWord) -> AdcWord
+    ensures { λ r. ⌜ r ≡ cond first one other ⌝ }
 {
-    if here { new } else { old }
+    if first { one } else { other }
 }
 
 impl AdcWords {
@@ -60,10 +61,25 @@ impl AdcWords {
         let fifth = self.fifth;
         let sixth = self.sixth;
         AdcWords {
-            third: replaced(third, before == 2, word),
-            fourth: replaced(fourth, before == 3, word),
-            fifth: replaced(fifth, before == 4, word),
-            sixth: replaced(sixth, before == 5, word),
+            third: select(before == 2, word, third),
+            fourth: select(before == 3, word, fourth),
+            fifth: select(before == 4, word, fifth),
+            sixth: select(before == 5, word, sixth),
+        }
+    }
+    // Those of a send that got so many replies: a reply that has not come is lost, and what stands in its place is of an earlier send.
+    pub fn arrived(self, replies: u8) -> AdcWords
+        ensures { λ r. ⌜ r ≡ arrived self replies ⌝ }
+    {
+        let third = self.third;
+        let fourth = self.fourth;
+        let fifth = self.fifth;
+        let sixth = self.sixth;
+        AdcWords {
+            third: select(2 < replies, third, AdcWord::Lost),
+            fourth: select(3 < replies, fourth, AdcWord::Lost),
+            fifth: select(4 < replies, fifth, AdcWord::Lost),
+            sixth: select(5 < replies, sixth, AdcWord::Lost),
         }
     }
 }

@@ -61,6 +61,7 @@ groupEnded c =
       registers = reg.groupEnded (c .registers) (c .sequencer .count);
       sequencer = seq.groupEnded (c .sequencer);
       readbacks = rb.groupEnded (c .readbacks);
+      adc = c .adc;
       commands = cmd.groupEnded (c .commands);
     }
 

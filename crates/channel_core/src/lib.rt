@@ -2,6 +2,7 @@
 // It knows no board and no other channel.
 mod ticks;
 
+use adc_words::AdcWords;
 use command_frames::CommandFrames;
 use readback::Readbacks;
 use refusal::Refusal;
@@ -24,6 +25,7 @@ pub struct Channel {
     pub registers: Registers,
     pub sequencer: Sequencer,
     pub readbacks: Readbacks,
+    pub adc: AdcWords,
     pub commands: CommandFrames,
 }
 
@@ -154,6 +156,7 @@ impl Channel {
             registers: Registers::opened(),
             sequencer: Sequencer::opened(),
             readbacks: Readbacks::opened(),
+            adc: AdcWords::lost(),
             commands: CommandFrames::opened(),
         }
     }
@@ -168,6 +171,7 @@ impl Channel {
             registers: Registers::opened(),
             sequencer: Sequencer::opened(),
             readbacks: Readbacks::opened(),
+            adc: AdcWords::lost(),
             commands: CommandFrames::opened(),
         }
     }
@@ -208,12 +212,14 @@ impl Channel {
         let registers = self.registers;
         let sequencer = self.sequencer;
         let readbacks = self.readbacks;
+        let adc = self.adc;
         let commands = self.commands;
         Channel {
             status: early_ended(status, sequencer).latched(status::GROUP_END),
             registers: registers.group_ended(sequencer.count),
             sequencer: sequencer.group_ended(),
             readbacks: readbacks.group_ended(),
+            adc: adc,
             commands: commands.group_ended(),
         }
     }

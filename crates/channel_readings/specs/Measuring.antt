@@ -3,6 +3,7 @@ use Rattle.codes.specs.Voltage.{voltageOf}
 use Rattle.adc_words.specs.declared.AdcWord.{AdcWord}
 use Rattle.adc_words.specs.declared.AdcWord.the-variants as adc
 use Rattle.adc_words.specs.declared.AdcWords.{AdcWords}
+use Rattle.adc_words.specs.Positions.{arrived}
 use Rattle.channel_core.specs.declared.Channel.{Channel}
 use Rattle.channel_core.specs.Results.{AdcReading, volts, lost, damaged}
 use Rattle.channel_core.specs.Answers.{Answer}
@@ -18,6 +19,6 @@ measured (adc.Data word) = volts (voltageOf word)
 abbrev pub measurement : AdcWords → Answer
 measurement w = ans.readings (measured (w .third)) (measured (w .fourth)) (measured (w .fifth)) (measured (w .sixth))
 
--- "The call .. describes its last setpoint send since idle"
+-- "The call .. describes its last setpoint send since idle; with none, all four are lost.": with none there are no replies to it
 unfoldable pub readingsAnswer : Channel → Answer
-readingsAnswer c = measurement (c .sequencer .last .adc)
+readingsAnswer c = measurement (arrived (c .adc) (c .sequencer .last .replies))

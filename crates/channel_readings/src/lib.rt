@@ -36,7 +36,8 @@ pub fn last_readings(c: Channel) -> Readings
 {
     let sequencer = c.sequencer;
     let last = sequencer.last;
-    let adc = last.adc;
+    let words = c.adc;
+    let adc = words.arrived(last.replies);
     let third = adc.third;
     let fourth = adc.fourth;
     let fifth = adc.fifth;

@@ -8,7 +8,7 @@ use Rattle.status.specs.declared.Status.{Status}
 use Rattle.status.specs.Latching.{latched, crcError}
 use Rattle.registers.specs.Map.{secondActive, readbackPlace}
 use Rattle.adc_words.specs.declared.AdcWord.{AdcWord}
-use Rattle.adc_words.specs.Positions.{adcWord}
+use Rattle.adc_words.specs.Positions.{adcWord, withReply}
 use Rattle.sequencer.specs.Playing.{isIdle, answered}
 use Rattle.readback.specs.declared.Disposition.{Disposition}
 use Rattle.readback.specs.declared.Disposition.the-variants as disposition
@@ -17,7 +17,7 @@ use Rattle.command_frames.specs.Commanding.{takes, received}
 use Rattle.channel_core.specs.declared.Channel.{Channel}
 use Rattle.channel_core.specs.Answers.{Answer}
 use Rattle.channel_core.specs.Answers as ans
-use Rattle.channel_core.specs.State.{withStatus, withSequencer, withReadbacks, withCommands}
+use Rattle.channel_core.specs.State.{withStatus, withSequencer, withReadbacks, withAdc, withCommands}
 
 -- what becomes of a well-framed reply that no command frame takes
 unfoldable pub dispositionNow : Channel → ℕ → Disposition
@@ -33,9 +33,11 @@ receiptAnswer disposition.Unsolicited = ans.unsolicited
 receiptAnswer disposition.Lost = ans.lost
 receiptAnswer disposition.Kept = ans.kept
 
--- a reply that was due, kept or lost, "counts among the six", and its CRC is checked; `become` is what becomes of it as an ADC word
+-- a reply that was due, kept or lost, "counts among the six", and its CRC is checked; `become` is what becomes of it, kept where its position, after those
+-- that came before it, is that of an ADC word
 abbrev pub replyCounted : Channel → Bool → AdcWord → Channel
-replyCounted c right become = withSequencer (withStatus c (crcStatus (c .status) right)) (answered (c .sequencer) become)
+replyCounted c right become =
+    withAdc (withSequencer (withStatus c (crcStatus (c .status) right)) (answered (c .sequencer))) (withReply (c .adc) (c .sequencer .last .replies) become)
 
 -- the channel after it; an unasked one changes nothing. Card 7: "A reading is lost when its reply wasn't stored, with a wrong CRC or not."
 abbrev pub receivedChannel : Disposition → Channel → ℕ → Bool → ℕ → Channel

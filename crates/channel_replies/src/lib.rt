@@ -46,15 +46,18 @@ fn disposition(c: Channel, m: u32) -> Disposition
     readback::dispose(sequencer::stages::is_idle(stage), last, readbacks.stored, m)
 }
 
-// A reply that was due, kept or lost, is one of the six; its CRC is checked.
+// A reply that was due, kept or lost, is one of the six; its CRC is checked, and it may be an ADC word.
 fn counted(c: Channel, right: bool, word: AdcWord) -> Channel
     ensures { λ r. ⌜ r ≡ replyCounted c right word ⌝ }
 {
     let status = c.status;
     let sequencer = c.sequencer;
+    let adc = c.adc;
+    let last = sequencer.last;
     let mut next = c;
     next.status = crc_checked(status, right);
-    next.sequencer = sequencer.answered(word);
+    next.sequencer = sequencer.answered();
+    next.adc = adc.with_reply(last.replies, word);
     next
 }
 

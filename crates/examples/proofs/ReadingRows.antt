@@ -6,7 +6,7 @@ use Rattle.register_map.specs.AccessRule.{channelAccess}
 use Rattle.registers.specs.Map.{stored, loaded, flips}
 use Rattle.registers.specs.Map as reg
 use Rattle.codes.specs.Voltage.{voltageOf}
-use Rattle.adc_words.specs.Positions.{withReply}
+use Rattle.adc_words.specs.Positions.{withReply, arrived}
 use Rattle.sequencer.specs.Playing as seq
 use Rattle.readback.specs.Storing.{dispositionOf, storedWord}
 use Rattle.command_frames.specs.Commanding as cmd
@@ -20,7 +20,7 @@ use Rattle.channel.specs.OneChannel.{retiredOf, refusalOf, effect, answer, tran
 use Rattle.examples.specs.ReadingRows.{ReadingRows}
 
 pub reading-rows : ReadingRows
-unfolding readingsAnswer voltageOf withReply storedWord retiredOf eventWords transition response refusalOf effect answer registerRefusal registerEffect registerWords readValue channelAccess stored armedOf disarmedOf started groupEnded groupWords startedIf endedIf endedWords resumedIf commanded commandWords dueOf tickOf dispositionOf dispositionNow replyAnswer replyOf replyWords seq.armed seq.idled seq.started seq.answered seq.ticked seq.advancing seq.sentNext seq.sentAs seq.groupEnded seq.shortfall reg.groupEnded flips cmd.stored cmd.ticked cmd.takes opened reset read crcRight crcFor crcOf loaded userChanged taggedIf resumedOn eventOf setpointRefusal setpointWords seq.disarmed seq.resumed seq.repeating seq.repeated seq.tagged cmd.groupEnded cmd.dropped cmd.received cmd.loaded
+unfolding readingsAnswer voltageOf withReply arrived storedWord retiredOf eventWords transition response refusalOf effect answer registerRefusal registerEffect registerWords readValue channelAccess stored armedOf disarmedOf started groupEnded groupWords startedIf endedIf endedWords resumedIf commanded commandWords dueOf tickOf dispositionOf dispositionNow replyAnswer replyOf replyWords seq.armed seq.idled seq.started seq.answered seq.ticked seq.advancing seq.sentNext seq.sentAs seq.groupEnded seq.shortfall reg.groupEnded flips cmd.stored cmd.ticked cmd.takes opened reset read crcRight crcFor crcOf loaded userChanged taggedIf resumedOn eventOf setpointRefusal setpointWords seq.disarmed seq.resumed seq.repeating seq.repeated seq.tagged cmd.groupEnded cmd.dropped cmd.received cmd.loaded
 reading-rows =
     record {
       opened = refl;

@@ -7,7 +7,6 @@ use Rattle.examples.specs.RunRows.{RunRows}
 use Rattle.frame.specs.Frames.{crcFor, encoded, framed, refused, fields, read, crcRight}
 use Rattle.status.specs.Bits.{bitAt}
 use Rattle.registers.specs.Map.{startEvent}
-use Rattle.adc_words.specs.Positions.{allLost}
 use Rattle.sequencer.specs.declared.Kind.the-variants as kind
 use Rattle.sequencer.specs.declared.LastSend.{LastSend}
 use Rattle.sequencer.specs.Words.{kindOf}
@@ -94,7 +93,7 @@ pub record ResumeRows : Type 0 where
 
 -- the last send was first and last, and used no tag, whatever Frame ID it carried
 abbrev pub firstAndLast : (id : ℕ) → LastSend
-firstAndLast id = record { sent = true; first = true; paused = false; last = true; id = id; tagged = false; replies = 0; adc = allLost }
+firstAndLast id = record { sent = true; first = true; paused = false; last = true; id = id; tagged = false; replies = 0 }
 
 pub record WordRows : Type 0 where
   -- "D31 with D16: last.", where its place does not make it so (`false`)

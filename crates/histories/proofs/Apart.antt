@@ -17,8 +17,6 @@ use Rattle.sequencer.specs.declared.Stage.the-variants as stage
 use Rattle.sequencer.specs.declared.Sequencer.{Sequencer}
 use Rattle.sequencer.specs.declared.Transmission.{Transmission}
 use Rattle.sequencer.specs.declared.Transmission.the-variants as transmission
-use Rattle.adc_words.specs.declared.AdcWord.{AdcWord}
-use Rattle.adc_words.specs.Positions.{adcWord}
 use Rattle.sequencer.specs.Playing.{isIdle, nothingSent, advancing, ticked, tickedAt, loadedResume}
 use Rattle.sequencer.specs.Playing as seq
 use Rattle.sequencer.proofs.Moves.{resumed-either}
@@ -113,9 +111,9 @@ module _ (f : CommandFrames) (s : Sequencer) (p : Apart f s) where
   apart-tagged =
       either (Apart f) (s .armed) (record { due = p .due; due-unsent = p .due-unsent; receiving-unsent = p .receiving-unsent }) p
 
-  apart-answered : (word : AdcWord) → Apart f (seq.answered s word)
+  apart-answered : Apart f (seq.answered s)
   unfolding seq.answered
-  apart-answered word = record { due = p .due; due-unsent = p .due-unsent; receiving-unsent = p .receiving-unsent }
+  apart-answered = record { due = p .due; due-unsent = p .due-unsent; receiving-unsent = p .receiving-unsent }
 
   -- in a pause nothing is due
   apart-loaded : (k delay : ℕ) → s .stage ≡ stage.Paused k → Apart f (loadedResume s delay)
@@ -251,8 +249,8 @@ module _ (c : Channel) (p : ApartIn c) where
 
   disposition-apart : (d : Disposition) (m : ℕ) (right : Bool) (word : ℕ) → ApartIn (receivedChannel d c m right word)
   disposition-apart disposition.Unsolicited m right word = p
-  disposition-apart disposition.Lost m right word = apart-answered (c .commands) (c .sequencer) p (adcWord false right word)
-  disposition-apart disposition.Kept m right word = apart-answered (c .commands) (c .sequencer) p (adcWord true right word)
+  disposition-apart disposition.Lost m right word = apart-answered (c .commands) (c .sequencer) p
+  disposition-apart disposition.Kept m right word = apart-answered (c .commands) (c .sequencer) p
 
   pub apart-reply : (m f : ℕ) → ApartIn (replyOf c m f)
   unfolding replyOf

@@ -7,8 +7,6 @@ use lib.Dec.{eqb, leb}
 use borrow.Author.Tests.{eqb-true, ne-eqb}
 use Rattle.status.specs.Bits.{bitAt}
 use Rattle.registers.specs.Map.{periodOf, triggersOf, groupEndEvent, stored}
-use Rattle.adc_words.specs.declared.AdcWord.{AdcWord}
-use Rattle.adc_words.specs.declared.AdcWord.the-variants as adc
 use Rattle.sequencer.specs.declared.Sequencer.{Sequencer}
 use Rattle.sequencer.specs.Playing.{idled, disarmed, withMissing}
 use Rattle.channel_core.specs.declared.Channel.{Channel}
@@ -36,11 +34,11 @@ abbrev Has : Sequencer → Channel → Type 0
 Has s c = c .sequencer ≡ s
 
 -- of a channel: its command frames say whether one is due and takes a reply
-abbrev StepsOf : ℕ → Channel → Answer → (ends again stops reads : Bool) → AdcWord → Sequencer → Type 0
-StepsOf n c a ends again stops reads word t =
-    Steps n (c .registers .id) (c .sequencer) a (isDue (c .commands .waiting)) (takes (c .commands)) ends again stops reads word t
+abbrev StepsOf : ℕ → Channel → Answer → (ends again stops reads : Bool) → Sequencer → Type 0
+StepsOf n c a ends again stops reads t =
+    Steps n (c .registers .id) (c .sequencer) a (isDue (c .commands .waiting)) (takes (c .commands)) ends again stops reads t
 
-reset-if : (n : ℕ) (c : Channel) (on : Bool) → StepsOf n c ans.done false on false false adc.Lost (cond on (reset c) c .sequencer)
+reset-if : (n : ℕ) (c : Channel) (on : Bool) → StepsOf n c ans.done false on false false (cond on (reset c) c .sequencer)
 unfolding reset
 reset-if n c true = idle-steps n (c .sequencer) false true false
 reset-if n c false = same-steps n c ans.done (c .sequencer) (refl, refl) refl
@@ -52,13 +50,13 @@ kept-register : (c : Channel) (offset value : ℕ)
 kept-register c offset value = either (Has (c .sequencer)) (leb 0xe0 offset) refl refl
 
 register-steps : (n : ℕ) (c : Channel) (offset value : ℕ)
-    → StepsOf n c ans.done (eqb offset 0x08 && bitAt value 2) (eqb offset 0x06 && bitAt value 0) false false adc.Lost
+    → StepsOf n c ans.done (eqb offset 0x08 && bitAt value 2) (eqb offset 0x06 && bitAt value 0) false false
     (registerEffect c offset value .sequencer)
 unfolding registerEffect
 register-steps n c offset value =
     by-offset
     (λ (x : ℕ).
-    StepsOf n c ans.done (eqb x 0x08 && bitAt value 2) (eqb x 0x06 && bitAt value 0) false false adc.Lost (registerEffect c x value .sequencer))
+    StepsOf n c ans.done (eqb x 0x08 && bitAt value 2) (eqb x 0x06 && bitAt value 0) false false (registerEffect c x value .sequencer))
     offset
     (same-steps n c ans.done (c .sequencer) (refl, refl) refl)
     (reset-if n c (bitAt value 0))
@@ -103,12 +101,12 @@ main-plain c offset = go (eqb offset 0x28) (eqb offset 0x2a)
     go false true = (refl, refl)
     go false false = (refl, refl)
 
-user-steps : (o : OneChannel) (user : ℕ) → StepsOf (o .n) (o .channel) ans.done false false (not (eqb user (o .user))) false adc.Lost (userChange o user .channel .sequencer)
+user-steps : (o : OneChannel) (user : ℕ) → StepsOf (o .n) (o .channel) ans.done false false (not (eqb user (o .user))) false (userChange o user .channel .sequencer)
 unfolding userChanged idled
 user-steps o user = go (eqb user (o .user))
   where
     go : (b : Bool)
-        → StepsOf (o .n) (o .channel) ans.done false false (not b) false adc.Lost
+        → StepsOf (o .n) (o .channel) ans.done false false (not b) false
         (cond b o (call.withUser (call.withChannel o (userChanged (o .channel))) user) .channel .sequencer)
     go true = same-steps (o .n) (o .channel) ans.done (o .channel .sequencer) (refl, refl) refl
     go false = idle-steps (o .n) (o .channel .sequencer) (o .channel .sequencer .armed) false (o .channel .sequencer .tag)
@@ -124,11 +122,11 @@ period-some clock = go (eqb clock 0) (eqb clock 1) (eqb clock 2)
 
 -- what a call does that is not refused
 effect-steps : (o : OneChannel) (k : ChannelCall) → ApartIn (o .channel)
-    → StepsOf (o .n) (o .channel) (answer o k) (asks o k .groupEnd) (asks o k .reset) (asks o k .idle) (asks o k .reads 0x0c) (asks o k .adc) (effect o k .channel .sequencer)
+    → StepsOf (o .n) (o .channel) (answer o k) (asks o k .groupEnd) (asks o k .reset) (asks o k .idle) (asks o k .reads 0x0c) (effect o k .channel .sequencer)
 unfolding effect answer armedOf disarmedOf disarmed idled tickOf tickAnswer
 effect-steps o (call.writeRegister lent offset value) p = register-steps (o .n) (o .channel) offset value
 effect-steps o (call.readRegister offset) p =
-    subst (λ (t : Sequencer). StepsOf (o .n) (o .channel) (ans.value (readValue (o .channel) offset)) false false false (eqb offset 0x0c) adc.Lost t)
+    subst (λ (t : Sequencer). StepsOf (o .n) (o .channel) (ans.value (readValue (o .channel) offset)) false false false (eqb offset 0x0c) t)
     (sym (read-sequencer (o .channel) offset)) (read-steps (o .n) (o .channel) _ (eqb offset 0x0c) (refl, refl))
 effect-steps o (call.writeSetpoint lent user buffer index word) p = same-steps (o .n) (o .channel) _ _ (refl, refl) refl
 effect-steps o call.arm p = kept-steps (o .n) (o .channel) _ _ (refl, refl) (keeps-armed (o .channel .sequencer))
@@ -148,8 +146,8 @@ effect-steps o (call.readMain offset) p =
 
 -- any call
 pub steps : (o : OneChannel) (k : ChannelCall) → ApartIn (o .channel)
-    → StepsOf (o .n) (o .channel) (response o k) (endsGroup (entry o k)) (resets (entry o k)) (stops (entry o k)) (readsAt 0x0c (entry o k)) (asks o k .adc) (transition o k .channel .sequencer)
+    → StepsOf (o .n) (o .channel) (response o k) (endsGroup (entry o k)) (resets (entry o k)) (stops (entry o k)) (readsAt 0x0c (entry o k)) (transition o k .channel .sequencer)
 steps o k p =
-    by-refusal (λ (x : OneChannel) (a : Answer) (b c d : Bool) (r : ℕ → Bool). StepsOf (o .n) (o .channel) a b c d (r 0x0c) (asks o k .adc) (x .channel .sequencer)) o k
+    by-refusal (λ (x : OneChannel) (a : Answer) (b c d : Bool) (r : ℕ → Bool). StepsOf (o .n) (o .channel) a b c d (r 0x0c) (x .channel .sequencer)) o k
     (λ e. effect-steps o k p)
     (same-steps (o .n) (o .channel) _ _ (refl, refl) refl)

@@ -11,7 +11,6 @@ pub mod Apart
 pub mod Steps
 pub mod Calls
 pub mod Parts
-pub mod Brought
 pub mod Ranges
 pub mod Commands
 pub mod Ended
@@ -28,5 +27,6 @@ pub mod EndWords
 pub mod Replying
 pub mod EventRegisters
 pub mod Tagged
+pub mod Brought
 pub mod Tags
 pub mod Readings

@@ -1,21 +1,24 @@
 -- Status, registers, stored readback counts and command frames stay in range through what a channel does. Assumes nothing.
-use Prim.Native.Nat.{ℕ, zero, suc, _≤_}
+use Prim.Native.Nat.{ℕ, zero, suc, _≤_, _<_}
 use mathlib.Core.Path.{_≡_, refl, sym, _∙_, ap}
 use mathlib.Core.Logic.{_⊎_, inl, inr}
-use mathlib.Core.Bool.{Bool, true, false, not, or-true}
+use mathlib.Core.Bool.{Bool, true, false, cond, not, or-true}
 use mathlib.Core.List.{List, [], _∷_}
 use native.Mathlib.Omega.{arith}
 use lib.ListN.{length, getD, set, replicate, length-set}
 use lib.Seq.{getD-set-other}
 use lib.Dec.{eqb, ltb}
 use borrow.Author.Tests.{ltb-true, le-leb}
-use Rattle.frame.specs.Frames.{Reading, read, crcRight}
+use Rattle.frame.specs.Frames.{Reading, read, framed, idOf, dataOf, auxOf, crcIn, crcRight}
 use Rattle.frame.specs.Frames as frame
 use Rattle.status.specs.declared.Status.{Status}
 use Rattle.status.specs.Latching.{latched, groupEnd, earlyEnd, run, missingReadback, crcError}
 use Rattle.registers.specs.declared.Registers.{Registers}
 use Rattle.registers.specs.Map.{periodOf, stored, flips}
 use Rattle.registers.specs.Map as reg
+use Rattle.adc_words.specs.declared.AdcWord.{AdcWord}
+use Rattle.adc_words.specs.declared.AdcWords.{AdcWords}
+use Rattle.adc_words.specs.Positions.{adcWord, withReply}
 use Rattle.sequencer.specs.declared.LastSend.{LastSend}
 use Rattle.sequencer.specs.declared.Sequencer.{Sequencer}
 use Rattle.sequencer.specs.declared.Transmission.{Transmission}
@@ -37,7 +40,7 @@ use Rattle.channel.specs.Calls.{disarmedOf}
 use Rattle.channel.proofs.Cases.{clash, either, by-test}
 use Rattle.histories.proofs.Ticks.{Latching, plays-ticked}
 use Rattle.histories.specs.Statuses.{isCondition}
-use Rattle.histories.specs.Ranges.{BitsInRange, StatusInRange, RegistersInRange, ReadbacksInRange, CommandsInRange, ChannelInRange}
+use Rattle.histories.specs.Ranges.{BitsInRange, StatusInRange, RegistersInRange, ReadbacksInRange, AdcInRange, AdcWordsInRange, CommandsInRange, ChannelInRange}
 
 -- ---- Status
 
@@ -158,18 +161,52 @@ received-commands f wrong id word h =
 
 -- ---- The channel
 
+-- ---- ADC words
+
+-- the data of a frame has 16 bits
+abbrev DataInRange : Reading → Type 0
+DataInRange (frame.refused k) = Unit {0}
+DataInRange (frame.fields id word aux crc) = word < 65536
+
+data-read : (f : ℕ) → DataInRange (read f)
+unfolding read
+data-read f = go (framed f)
+  where
+    go : (b : Bool) → DataInRange (cond b (frame.fields (idOf f) (dataOf f) (auxOf f) (crcIn f)) (frame.refused 7))
+    go true = omega arith
+    go false = tt
+
+word-range : (stored right : Bool) (word : ℕ) → word < 65536 → AdcInRange (adcWord stored right word)
+word-range true true word h = h
+word-range true false word h = tt
+word-range false right word h = tt
+
+replied-range : (w : AdcWords) (before : ℕ) (a : AdcWord) → AdcWordsInRange w → AdcInRange a → AdcWordsInRange (withReply w before a)
+unfolding withReply
+replied-range w before a h i =
+    record {
+      third = at (eqb before 2) (w .third) (h .third);
+      fourth = at (eqb before 3) (w .fourth) (h .fourth);
+      fifth = at (eqb before 4) (w .fifth) (h .fifth);
+      sixth = at (eqb before 5) (w .sixth) (h .sixth);
+    }
+  where
+    at : (here : Bool) (b : AdcWord) → AdcInRange b → AdcInRange (cond here a b)
+    at true b j = i
+    at false b j = j
+
 module _ (m : ℕ) where
   pub with-status : (c : Channel) (s : Status) → StatusInRange s → ChannelInRange m c → ChannelInRange m (withStatus c s)
-  with-status c s h k = record { status = h; registers = k .registers; readbacks = k .readbacks; commands = k .commands }
+  with-status c s h k = record { status = h; registers = k .registers; readbacks = k .readbacks; adc = k .adc; commands = k .commands }
 
   pub with-registers : (c : Channel) (r : Registers) → RegistersInRange r → ChannelInRange m c → ChannelInRange m (withRegisters c r)
-  with-registers c r h k = record { status = k .status; registers = h; readbacks = k .readbacks; commands = k .commands }
+  with-registers c r h k = record { status = k .status; registers = h; readbacks = k .readbacks; adc = k .adc; commands = k .commands }
 
   pub with-sequencer : (c : Channel) (s : Sequencer) → ChannelInRange m c → ChannelInRange m (withSequencer c s)
-  with-sequencer c s k = record { status = k .status; registers = k .registers; readbacks = k .readbacks; commands = k .commands }
+  with-sequencer c s k = record { status = k .status; registers = k .registers; readbacks = k .readbacks; adc = k .adc; commands = k .commands }
 
   with-commands : (c : Channel) (f : CommandFrames) → CommandsInRange f → ChannelInRange m c → ChannelInRange m (withCommands c f)
-  with-commands c f h k = record { status = k .status; registers = k .registers; readbacks = k .readbacks; commands = h }
+  with-commands c f h k = record { status = k .status; registers = k .registers; readbacks = k .readbacks; adc = k .adc; commands = h }
 
   pub opened-range : ChannelInRange m opened
   unfolding opened
@@ -178,6 +215,7 @@ module _ (m : ℕ) where
         status = record { enable = refl; interrupt = none-range; polling = none-range };
         registers = record { clock = omega arith; active = refl; id = omega arith; events = refl; switches = refl; delays = refl };
         readbacks = record { stored = omega arith; retired = omega arith };
+        adc = record { third = tt; fourth = tt; fifth = tt; sixth = tt };
         commands = record { count = omega arith; replies = refl };
       }
 
@@ -188,6 +226,7 @@ module _ (m : ℕ) where
         status = record { enable = refl; interrupt = none-range; polling = none-range };
         registers = opened-range .registers;
         readbacks = opened-range .readbacks;
+        adc = opened-range .adc;
         commands = opened-range .commands;
       }
 
@@ -207,6 +246,7 @@ module _ (m : ℕ) where
         status = latched-range _ groupEnd refl (early-range (c .status) (c .sequencer) (h .status));
         registers = group-registers (c .registers) (c .sequencer .count) (h .registers);
         readbacks = record { stored = omega arith; retired = h .readbacks .stored };
+        adc = h .adc;
         commands = group-commands (c .commands) (h .commands);
       }
 
@@ -264,25 +304,34 @@ module _ (m : ℕ) where
         retired = h .retired;
       }
 
-  disposition-range : (d : Disposition) (c : Channel) (right : Bool) (word : ℕ) → ChannelInRange m c → ChannelInRange m (receivedChannel d c m right word)
-  disposition-range disposition.Unsolicited c right word h = h
-  disposition-range disposition.Lost c right word h = with-sequencer _ _ (with-status c _ (crc-range (c .status) right (h .status)) h)
-  disposition-range disposition.Kept c right word h =
+  disposition-range : (d : Disposition) (c : Channel) (right : Bool) (word : ℕ) → word < 65536 → ChannelInRange m c
+      → ChannelInRange m (receivedChannel d c m right word)
+  disposition-range disposition.Unsolicited c right word fits h = h
+  disposition-range disposition.Lost c right word fits h =
+      record {
+        status = crc-range (c .status) right (h .status);
+        registers = h .registers;
+        readbacks = h .readbacks;
+        adc = replied-range (c .adc) (c .sequencer .last .replies) _ (h .adc) (word-range false right word fits);
+        commands = h .commands;
+      }
+  disposition-range disposition.Kept c right word fits h =
       record {
         status = crc-range (c .status) right (h .status);
         registers = h .registers;
         readbacks = kept-range (c .readbacks) (h .readbacks);
+        adc = replied-range (c .adc) (c .sequencer .last .replies) _ (h .adc) (word-range true right word fits);
         commands = h .commands;
       }
 
   pub reply-range : (c : Channel) (f : ℕ) → ChannelInRange m c → ChannelInRange m (replyOf c m f)
   unfolding replyOf
-  reply-range c f h = go (read f)
+  reply-range c f h = go (read f) (data-read f)
     where
-      go : (g : Reading) → ChannelInRange m (replyAs g c m)
-      go (frame.refused k) = h
-      go (frame.fields id word aux crc) =
+      go : (g : Reading) → DataInRange g → ChannelInRange m (replyAs g c m)
+      go (frame.refused k) fits = h
+      go (frame.fields id word aux crc) fits =
           either (ChannelInRange m) (takes (c .commands))
           (with-commands _ _ (received-commands (c .commands) (not (crcRight id word aux crc)) id word (h .commands))
           (with-status c _ (crc-range (c .status) (crcRight id word aux crc) (h .status)) h))
-          (disposition-range (dispositionNow c m) c (crcRight id word aux crc) word h)
+          (disposition-range (dispositionNow c m) c (crcRight id word aux crc) word fits h)

@@ -11,16 +11,13 @@ use Rattle.register_map.specs.AccessRule.{channelAccess}
 use Rattle.register_map.specs.AccessRefusals.{writeRefusal}
 use Rattle.status.specs.Bits.{bitAt}
 use Rattle.status.proofs.Laws.{enable-drops}
-use Rattle.adc_words.specs.declared.AdcWord.{AdcWord}
-use Rattle.adc_words.specs.declared.AdcWords.{AdcWords}
-use Rattle.adc_words.specs.Positions.{allLost, withReply}
 use Rattle.sequencer.specs.declared.Sequencer.{Sequencer}
 use Rattle.sequencer.specs.Playing.{shortfall, missingWith}
 use Rattle.command_frames.specs.declared.CommandFrames.{CommandFrames}
-use Rattle.command_frames.specs.Commanding.{isDue, takes}
+use Rattle.command_frames.specs.Commanding.{isDue}
 use Rattle.channel_core.specs.declared.Channel.{Channel}
 use Rattle.channel_core.specs.State as state
-use Rattle.channel_core.specs.Answers.{Answer, isFrame, isReceived}
+use Rattle.channel_core.specs.Answers.{Answer, isFrame}
 use Rattle.channel_core.specs.Behaviour.{userChanged}
 use Rattle.channel_registers.specs.Calls.{cannotSend, registerRefusal, registerEffect, readEffect}
 use Rattle.channel.specs.Calls.{outside, armedOf, mainTaken}
@@ -28,11 +25,9 @@ use Rattle.channel.specs.OneChannel.{ChannelCall, OneChannel, oneChannel, lengt
 use Rattle.channel.specs.OneChannel as call
 use Rattle.channel.proofs.Cases.{passed, either}
 use Rattle.channel.proofs.Ranges.{inside}
-use Rattle.histories.specs.History.{isKept, entry, resets, readsAt}
-use Rattle.histories.specs.Windows.{idles}
-use Rattle.histories.specs.Ranges.{Quiet, AdcInRange, AdcWordsInRange, SequencerInRange, ChannelInRange, Apart, InRange, CallKeepsRange, StaysInRange}
+use Rattle.histories.specs.History.{entry, resets, readsAt}
+use Rattle.histories.specs.Ranges.{Quiet, SequencerInRange, ChannelInRange, Apart, InRange, CallKeepsRange, StaysInRange}
 use Rattle.histories.proofs.Accepted.{then-passed}
-use Rattle.histories.proofs.Brought.{adc-brought}
 use Rattle.histories.proofs.Calls.{steps, read-sequencer, main-sequencer}
 use Rattle.histories.proofs.Leaves.{leaves-read, leaves-main}
 use Rattle.histories.proofs.Apart.{ApartIn, apart-opened, apart-event, apart-user, apart-arm, apart-disarm, apart-tick, apart-reply, apart-register}
@@ -216,46 +211,6 @@ missing-few true sends k more h = omega arith
 missing-few false true k more h = omega arith
 missing-few false false k more h = h
 
-lost-range : AdcWordsInRange allLost
-lost-range = record { third = tt; fourth = tt; fifth = tt; sixth = tt }
-
-replied-range : (w : AdcWords) (before : ℕ) (a : AdcWord) → AdcWordsInRange w → AdcInRange a → AdcWordsInRange (withReply w before a)
-unfolding withReply
-replied-range w before a h i =
-    record {
-      third = at (eqb before 2) (w .third) (h .third);
-      fourth = at (eqb before 3) (w .fourth) (h .fourth);
-      fifth = at (eqb before 4) (w .fifth) (h .fifth);
-      sixth = at (eqb before 5) (w .sixth) (h .sixth);
-    }
-  where
-    at : (here : Bool) (b : AdcWord) → AdcInRange b → AdcInRange (cond here a b)
-    at true b j = i
-    at false b j = j
-
--- the ADC words of the last send
-abbrev AdcIn : OneChannel → Type 0
-AdcIn o = AdcWordsInRange (o .channel .sequencer .last .adc)
-
-adc-range : (o : OneChannel) (k : ChannelCall) → ApartIn (o .channel) → AdcIn o → AdcIn (transition o k)
-adc-range o k p h =
-    let c = o .channel in
-    let a = response o k in
-    subst AdcWordsInRange (sym (steps o k p .adc-step))
-    (either AdcWordsInRange (idles (entry o k)) lost-range
-    (either AdcWordsInRange (isFrame a && not (isDue (c .commands .waiting))) lost-range
-    (either AdcWordsInRange (isReceived a && not (takes (c .commands)))
-    (replied-range (c .sequencer .last .adc) (c .sequencer .last .replies) _ h (adc-brought o k (isKept a))) h)))
-
-adc-range-from : (o : OneChannel) (ks : List ChannelCall) → Ordered (o .channel) → AdcIn o → AdcIn (transitions o ks)
-adc-range-from o [] g h = h
-adc-range-from o (k ∷ ks) g h = adc-range-from (transition o k) ks (ordered-step o k g) (adc-range o k (g .apart) h)
-
--- from an opening, whatever the depths and lengths
-pub adc-in-range : (n m : ℕ) (setpoints readbacks : List ℕ) (ks : List ChannelCall) → AdcIn (transitions (oneChannel n m setpoints readbacks) ks)
-unfolding state.opened
-adc-in-range n m setpoints readbacks ks = adc-range-from (oneChannel n m setpoints readbacks) ks ordered-opened lost-range
-
 -- one call keeps all in range
 pub range-step : CallKeepsRange
 range-step o k h =
@@ -268,7 +223,6 @@ range-step o k h =
       index-due = t .index-step (h .depth) (h .sequencer .index-due);
       countdown = t .countdown-step (h .sequencer .countdown);
       replies = t .replies-step (h .sequencer .replies);
-      adc = adc-range o k (h .apart) (h .sequencer .adc);
       missing =
           subst (λ (j : ℕ). j ≤ 255) (sym (t .missing-step))
           (missing-few (resets (entry o k) || readsAt 0x0c (entry o k)) (isFrame (response o k) && not (isDue (o .channel .commands .waiting)))
@@ -303,7 +257,7 @@ stays-in-range n m setpoints readbacks some more s r ks =
       user-to = omega arith;
       channel = opened-range m;
       sequencer =
-          record { index-due = some; countdown = tt; replies = omega arith; adc = lost-range; missing = omega arith; quiet = λ e. refl };
+          record { index-due = some; countdown = tt; replies = omega arith; missing = omega arith; quiet = λ e. refl };
       apart = apart-opened;
       setpoint-words = s;
       readback-words = r;

@@ -2,30 +2,52 @@
 -- with no such send all are lost. Assumes nothing.
 use Prim.Native.Nat.{ℕ, zero, suc, _+_, _≤_}
 use mathlib.Core.Path.{_≡_, refl, sym, _∙_, ap, ap₂, subst}
-use mathlib.Core.Bool.{Bool, true, false, cond}
+use mathlib.Core.Bool.{Bool, true, false, cond, not, _&&_, _||_}
 use mathlib.Core.List.{List, [], _∷_, _++_}
 use native.Mathlib.Omega.{arith}
+use lib.Dec.{eqb, leb, ltb}
 use lib.ListN.{length, getD, length-append}
+use Rattle.frame.specs.Frames.{Reading, read, crcRight}
+use Rattle.frame.specs.Frames as frame
+use Rattle.status.specs.Bits.{bitAt}
 use Rattle.codes.specs.Voltage.{voltageOf}
 use Rattle.codes.proofs.Exact.{voltage-exact}
+use Rattle.registers.specs.Map.{triggersOf, groupEndEvent}
 use Rattle.adc_words.specs.declared.AdcWord.{AdcWord}
 use Rattle.adc_words.specs.declared.AdcWord.the-variants as adc
 use Rattle.adc_words.specs.declared.AdcWords.{AdcWords}
-use Rattle.adc_words.specs.Positions.{allLost, withReply, wordsOf}
-use Rattle.adc_words.proofs.Laws.{one-more}
+use Rattle.adc_words.specs.Positions.{allLost, withReply, arrived, wordsOf}
+use Rattle.adc_words.proofs.Laws.{one-more, arrived-more, arrived-none}
+use Rattle.readback.specs.declared.Disposition.{Disposition}
+use Rattle.readback.specs.declared.Disposition.the-variants as disposition
+use Rattle.command_frames.specs.Commanding.{takes}
+use Rattle.channel_core.specs.declared.Channel.{Channel}
+use Rattle.channel_core.specs.Answers.{Answer, isReceived}
+use Rattle.channel_core.specs.Answers as ans
+use Rattle.channel_core.specs.State.{reset}
 use Rattle.channel_core.specs.State as state
+use Rattle.channel_core.specs.Behaviour.{groupEnded, endedIf, userChanged, playedOf, tickOf, tickAnswer}
+use Rattle.channel_replies.specs.Replying.{dispositionNow, receiptAnswer, receivedChannel, commandReply, replyAnswerAs, replyAs, replyAnswer, replyOf}
 use Rattle.channel_readings.specs.Measuring.{measured, readingsAnswer}
-use Rattle.channel.specs.OneChannel.{ChannelCall, OneChannel, oneChannel, refusalOf, answer, transition, response, transitions}
-use Rattle.channel.proofs.Cases.{clash}
-use Rattle.histories.specs.History.{Told, told, toldOf, sentId, sendsSetpoint, receives}
+use Rattle.channel_registers.specs.Calls.{registerEffect}
+use Rattle.channel.specs.Calls.{armedOf, disarmedOf}
+use Rattle.channel.specs.OneChannel.{ChannelCall, OneChannel, oneChannel, refusalOf, effect, answer, transition, response, transitions, queryAnswer, mainAnswer, mainRead}
+use Rattle.channel.specs.OneChannel as call
+use Rattle.channel.proofs.Cases.{clash, either}
+use Rattle.histories.specs.History.{isKept, adcIn, Entry, entry, Told, told, toldOf, asks, endsGroup, resets, sentId, sendsSetpoint, receives}
 use Rattle.histories.specs.Windows.{Window, closed, idles}
 use Rattle.histories.specs.Ranges.{AdcInRange, AdcWordsInRange, ChannelInRange}
 use Rattle.histories.specs.Readings.{becomes, repliesAfter, repliesSince, repliesOver, readingsBy, Says, ReadingsTold, ReadingsSay, NoneLost}
+use Rattle.histories.proofs.Accepted.{query-plain}
 use Rattle.histories.proofs.Buffered.{toldAt}
-use Rattle.histories.proofs.Calls.{steps}
+use Rattle.histories.proofs.Calls.{steps, main-plain}
+use Rattle.histories.proofs.Cases.{by-offset}
 use Rattle.histories.proofs.Commands.{toldFrom, told-next}
+use Rattle.histories.proofs.Leaves.{leaves-event, leaves-command, leaves-read, leaves-main}
 use Rattle.histories.proofs.Parts.{opened-range}
-use Rattle.histories.proofs.Ranges.{channel-step, Ordered, ordered-opened, ordered-step, adc-in-range}
+use Rattle.histories.proofs.Ranges.{channel-step, channel-from, Ordered, ordered-opened, ordered-step}
+use Rattle.histories.proofs.Refusing.{by-refusal}
+use Rattle.histories.proofs.Steps.{line-unreceived}
 use Rattle.histories.proofs.Ticks.{windowOf}
 use Rattle.histories.proofs.Windows.{window-held}
 
@@ -46,12 +68,15 @@ module _ (w : Window) (id : ℕ) (l : List AdcWord) (a : AdcWord) where
   count-after false false true e = ap (λ (k : ℕ). k + 1) e ∙ sym (length-append l (a ∷ []))
   count-after false false false e = e
 
-  words-after : (idle sends more : Bool)
-      → cond idle allLost (cond sends allLost (cond more (withReply (wordsOf l) (length l) a) (wordsOf l))) ≡ wordsOf (replies idle sends more)
-  words-after true sends more = refl
-  words-after false true more = refl
-  words-after false false true = one-more l a
-  words-after false false false = refl
+  -- `held` are the ADC words before it; a reset clears them, one reply more is put into its place
+  words-after : (held : AdcWords) (again idle sends more : Bool) → (again ≡ true → idle ≡ true) → w .replies ≡ length l → arrived held (w .replies) ≡ wordsOf l
+      → arrived (cond again allLost (cond more (withReply held (w .replies) a) held)) (window idle sends more .replies) ≡ wordsOf (replies idle sends more)
+  words-after held again true sends more r e h = arrived-none _
+  words-after held true false sends more r e h = clash (r refl)
+  words-after held false false true more r e h = arrived-none _
+  words-after held false false false true r e h =
+      arrived-more held (w .replies) a ∙ ap₂ (λ (x : AdcWords) (k : ℕ). withReply x k a) h e ∙ one-more l a
+  words-after held false false false false r e h = h
 
   none-after : (idle sends more : Bool) → (more ≡ true → w .sent ≡ true) → (w .sent ≡ false → l ≡ [])
       → window idle sends more .sent ≡ false → replies idle sends more ≡ []
@@ -60,13 +85,97 @@ module _ (w : Window) (id : ℕ) (l : List AdcWord) (a : AdcWord) where
   none-after false false true r h e = clash (sym e ∙ r refl)
   none-after false false false r h e = h e
 
+-- ---- What each call makes of the ADC words
+
+-- a channel with them, after a call with this answer, a reset or not; `become` is what becomes of a reply that is stored
+abbrev AdcStep : Channel → Answer → (again : Bool) → (become : AdcWord) → Channel → Type 0
+AdcStep c a again become d =
+    d .adc
+    ≡ cond again allLost
+    (cond (isReceived a && not (takes (c .commands))) (withReply (c .adc) (c .sequencer .last .replies) (cond (isKept a) become adc.Lost)) (c .adc))
+
+plain-adc : (c : Channel) (a : Answer) (become : AdcWord) (d : Channel) → isReceived a ≡ false → d .adc ≡ c .adc → AdcStep c a false become d
+plain-adc c a become d plain e = e ∙ sym (rw plain)
+
+ended-adc : (on : Bool) (c : Channel) → endedIf on c .adc ≡ c .adc
+unfolding endedIf groupEnded
+ended-adc true c = refl
+ended-adc false c = refl
+
+reset-adc : (c : Channel) (on : Bool) → AdcStep c ans.done on adc.Lost (cond on (reset c) c)
+unfolding reset
+reset-adc c true = refl
+reset-adc c false = refl
+
+register-adc : (c : Channel) (offset value : ℕ) → AdcStep c ans.done (eqb offset 0x06 && bitAt value 0) adc.Lost (registerEffect c offset value)
+unfolding registerEffect
+register-adc c offset value =
+    by-offset (λ (x : ℕ). AdcStep c ans.done (eqb x 0x06 && bitAt value 0) adc.Lost (registerEffect c x value)) offset
+    refl (reset-adc c (bitAt value 0)) (leaves-command c value .adc ∙ ended-adc (bitAt value 2) c)
+    (λ d e f. rw (d, e, f) (either (λ (x : Channel). x .adc ≡ c .adc) (leb 0xe0 offset) refl refl))
+
+reply-adc : (c : Channel) (m f : ℕ) → AdcStep c (replyAnswer c m f) false (adcIn (read f)) (replyOf c m f)
+unfolding replyAnswer replyOf
+reply-adc c m f = go (read f)
+  where
+    disposed : (d : Disposition) (right : Bool) (word : ℕ)
+        → receivedChannel d c m right word .adc
+        ≡ cond (isReceived (receiptAnswer d) && true)
+        (withReply (c .adc) (c .sequencer .last .replies) (cond (isKept (receiptAnswer d)) (cond right (adc.Data word) adc.Damaged) adc.Lost)) (c .adc)
+    disposed disposition.Unsolicited right word = refl
+    disposed disposition.Lost right word = refl
+    disposed disposition.Kept right word = refl
+
+    fields : (id word aux crc : ℕ) (b : Bool) → takes (c .commands) ≡ b
+        → AdcStep c (cond b ans.kept (receiptAnswer (dispositionNow c m))) false (cond (crcRight id word aux crc) (adc.Data word) adc.Damaged)
+        (cond b (commandReply c (crcRight id word aux crc) id word) (receivedChannel (dispositionNow c m) c m (crcRight id word aux crc) word))
+    fields id word aux crc true e = rw e
+    fields id word aux crc false e = rw e (disposed (dispositionNow c m) (crcRight id word aux crc) word)
+
+    go : (g : Reading) → AdcStep c (replyAnswerAs g c m) false (adcIn g) (replyAs g c m)
+    go (frame.refused k) = refl
+    go (frame.fields id word aux crc) = fields id word aux crc (takes (c .commands)) refl
+
+effect-adc : (o : OneChannel) (k : ChannelCall) → AdcStep (o .channel) (answer o k) (asks o k .reset) (asks o k .adc) (effect o k .channel)
+unfolding effect answer armedOf disarmedOf tickOf tickAnswer userChanged
+effect-adc o (call.writeRegister lent offset value) = register-adc (o .channel) offset value
+effect-adc o (call.readRegister offset) = leaves-read (o .channel) offset .adc
+effect-adc o (call.writeSetpoint lent user buffer index word) = refl
+effect-adc o call.arm = refl
+effect-adc o call.disarm = refl
+effect-adc o (call.reply lent f) = reply-adc (o .channel) (o .m) f
+effect-adc o (call.query which one two) = plain-adc (o .channel) (queryAnswer o which) adc.Lost (o .channel) (query-plain o which .2) refl
+effect-adc o (call.tick lent) =
+    plain-adc (o .channel) (tickAnswer (o .channel) (o .setpoints) (o .n) (o .user)) adc.Lost (tickOf (o .channel) (o .setpoints) (o .n) (o .user))
+    (line-unreceived (o .channel .registers .id) (o .channel .commands) (playedOf (o .channel) (o .setpoints) (o .n) (o .user) .transmission)) refl
+effect-adc o (call.event lent code) =
+    leaves-event (o .channel) (o .user) code .adc ∙ ended-adc (triggersOf (o .channel .registers) groupEndEvent code) (o .channel)
+effect-adc o (call.changeUser user) = either (λ (x : OneChannel). x .channel .adc ≡ o .channel .adc) (eqb user (o .user)) refl refl
+effect-adc o (call.writeMain lent offset value) = refl
+effect-adc o (call.readMain offset) =
+    plain-adc (o .channel) (mainAnswer (o .channel) offset) adc.Lost (mainRead (o .channel) offset) (main-plain (o .channel) offset .1)
+    (leaves-main (o .channel) offset .adc)
+
+adc-step : (o : OneChannel) (k : ChannelCall) → AdcStep (o .channel) (response o k) (resets (entry o k)) (asks o k .adc) (transition o k .channel)
+adc-step o k =
+    by-refusal (λ (x : OneChannel) (a : Answer) (b c d : Bool) (r : ℕ → Bool). AdcStep (o .channel) a c (asks o k .adc) (x .channel)) o k
+    (λ e. effect-adc o k) refl
+
 -- ---- Along a list
 
 -- a channel holds these replies; none, where there is no send
 pub record Holds (o : OneChannel) (l : List AdcWord) : Type 0 where
   pub count : o .channel .sequencer .last .replies ≡ length l
-  pub words : o .channel .sequencer .last .adc ≡ wordsOf l
+  pub words : arrived (o .channel .adc) (o .channel .sequencer .last .replies) ≡ wordsOf l
   pub none : o .channel .sequencer .last .sent ≡ false → l ≡ []
+
+-- a reset idles
+reset-idles : (e : Entry) → resets e ≡ true → idles e ≡ true
+reset-idles e r = rw r (go (endsGroup e))
+  where
+    go : (b : Bool) → (b || true) ≡ true
+    go true = refl
+    go false = refl
 
 holds-step : (o : OneChannel) (k : ChannelCall) (l : List AdcWord) → Ordered (o .channel) → ChannelInRange (o .m) (o .channel) → Holds o l
     → Holds (transition o k) (repliesAfter l (toldAt o k))
@@ -80,10 +189,8 @@ holds-step o k l g r h =
     record {
       count = ap (λ (x : Window). x .replies) after ∙ count-after w id l (becomes t) idle (sendsSetpoint t) (receives t) (h .count);
       words =
-          s .adc-step
-          ∙ ap₂ (λ (k : ℕ) (x : AdcWords). cond idle allLost (cond (sendsSetpoint t) allLost (cond (receives t) (withReply x k (becomes t)) x)))
-          (h .count) (h .words)
-          ∙ words-after w id l (becomes t) idle (sendsSetpoint t) (receives t);
+          ap₂ arrived (adc-step o k) (ap (λ (x : Window). x .replies) after)
+          ∙ words-after w id l (becomes t) (o .channel .adc) (resets (t .entry)) idle (sendsSetpoint t) (receives t) (reset-idles (t .entry)) (h .count) (h .words);
       none =
           λ e.
           none-after w id l (becomes t) idle (sendsSetpoint t) (receives t) (s .received-step) (h .none)
@@ -102,7 +209,7 @@ holds : (n m : ℕ) (setpoints readbacks : List ℕ) (ks : List ChannelCall)
     → Holds (transitions (oneChannel n m setpoints readbacks) ks) (repliesOver n m setpoints readbacks ks)
 unfolding state.opened
 holds n m setpoints readbacks ks =
-    holds-from (oneChannel n m setpoints readbacks) ks [] ordered-opened (opened-range m) (record { count = refl; words = refl; none = λ e. refl })
+    holds-from (oneChannel n m setpoints readbacks) ks [] ordered-opened (opened-range m) (record { count = refl; words = arrived-none _; none = λ e. refl })
 
 -- ---- The readings
 
@@ -124,11 +231,29 @@ in-place l h (suc (suc (suc (suc zero)))) low high = h .fifth
 in-place l h (suc (suc (suc (suc (suc zero))))) low high = h .sixth
 in-place l h (suc (suc (suc (suc (suc (suc k)))))) low high = absurd (omega arith)
 
+in-range : (n m : ℕ) (setpoints readbacks : List ℕ) (ks : List ChannelCall)
+    → AdcWordsInRange (transitions (oneChannel n m setpoints readbacks) ks .channel .adc)
+in-range n m setpoints readbacks ks = channel-from (oneChannel n m setpoints readbacks) ks (opened-range m) .adc
+
+arrived-range : (w : AdcWords) (k : ℕ) → AdcWordsInRange w → AdcWordsInRange (arrived w k)
+unfolding arrived
+arrived-range w k h =
+    record {
+      third = at (ltb 2 k) (w .third) (h .third);
+      fourth = at (ltb 3 k) (w .fourth) (h .fourth);
+      fifth = at (ltb 4 k) (w .fifth) (h .fifth);
+      sixth = at (ltb 5 k) (w .sixth) (h .sixth);
+    }
+  where
+    at : (come : Bool) (a : AdcWord) → AdcInRange a → AdcInRange (cond come a adc.Lost)
+    at true a i = i
+    at false a i = tt
+
 pub readings-say : ReadingsSay
 readings-say n m setpoints readbacks ks k low high =
     let l = repliesOver n m setpoints readbacks ks in
     measured-says (getD l k adc.Lost)
-    (in-place l (subst AdcWordsInRange (holds n m setpoints readbacks ks .words) (adc-in-range n m setpoints readbacks ks)) k low high)
+    (in-place l (subst AdcWordsInRange (holds n m setpoints readbacks ks .words) (arrived-range _ _ (in-range n m setpoints readbacks ks))) k low high)
 
 pub none-lost : NoneLost
 none-lost n m setpoints readbacks ks one two e =

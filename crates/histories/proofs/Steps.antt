@@ -8,10 +8,6 @@ use borrow.Author.Tests.{ltb-true}
 use Rattle.frame.specs.Frames.{Reading, read, crcRight}
 use Rattle.frame.specs.Frames as frame
 use Rattle.frame.proofs.Frames.{round-trip}
-use Rattle.adc_words.specs.declared.AdcWord.{AdcWord}
-use Rattle.adc_words.specs.declared.AdcWord.the-variants as adc
-use Rattle.adc_words.specs.declared.AdcWords.{AdcWords}
-use Rattle.adc_words.specs.Positions.{allLost, adcWord, withReply}
 use Rattle.sequencer.specs.declared.LastSend.{LastSend}
 use Rattle.sequencer.specs.declared.Stage.the-variants as stage
 use Rattle.sequencer.specs.declared.Sequencer.{Sequencer}
@@ -19,7 +15,7 @@ use Rattle.sequencer.specs.declared.Transmission.{Transmission}
 use Rattle.sequencer.specs.declared.Transmission.the-variants as transmission
 use Rattle.sequencer.specs.Playing.{isIdle, nothingSent, counted, shortfall, missingWith, withMissing, answered, ticked}
 use Rattle.sequencer.specs.Playing as seq
-use Rattle.sequencer.specs.Runs.{countAfter, missingAfter, adcAfter}
+use Rattle.sequencer.specs.Runs.{countAfter, missingAfter}
 use Rattle.sequencer.proofs.Moves.{moved}
 use Rattle.readback.specs.declared.Disposition.{Disposition}
 use Rattle.readback.specs.declared.Disposition.the-variants as disposition
@@ -34,7 +30,7 @@ use Rattle.channel_core.specs.Answers as ans
 use Rattle.channel_core.specs.Behaviour.{endedIf, groupEnded, isSetpoint, tickLine}
 use Rattle.channel_replies.specs.Replying.{dispositionNow, receiptAnswer, receivedChannel, commandReply, replyAs, replyAnswerAs, replyOf, replyAnswer}
 use Rattle.channel.proofs.Cases.{clash, either}
-use Rattle.histories.specs.History.{isKept, adcIn, idIn, sentId}
+use Rattle.histories.specs.History.{idIn, sentId}
 use Rattle.histories.specs.Windows.{Window, closed}
 use Rattle.histories.specs.Ranges.{Countdown, Quiet}
 use Rattle.histories.proofs.Keeps.{Keeps, keeps-all}
@@ -46,22 +42,15 @@ observed a due takes w =
     cond (isFrame a && not due) (record { sent = true; id = sentId a; replies = 0 })
     (cond (isReceived a && not takes) (record { sent = w .sent; id = w .id; replies = w .replies + 1 }) w)
 
--- and to the ADC words of the last send, after so many replies, `word` being what becomes of a reply that is stored
-abbrev pub observedAdc : Answer → (due takes : Bool) → AdcWord → (before : ℕ) → AdcWords → AdcWords
-observedAdc a due takes word before w =
-    cond (isFrame a && not due) allLost (cond (isReceived a && not takes) (withReply w before (cond (isKept a) word adc.Lost)) w)
-
 -- from s to t by a call with this answer, `id` being the Frame ID register, a command frame being due or not and taking a reply or not; it is a Group
--- End or not, a reset or not, idles otherwise or not, and reads the count of missing readbacks or not; `word` is what becomes of a reply that it
--- brings, if that is stored
-pub record Steps (n id : ℕ) (s : Sequencer) (a : Answer) (due takes ends again stops reads : Bool) (word : AdcWord) (t : Sequencer) : Type 0 where
+-- End or not, a reset or not, idles otherwise or not, and reads the count of missing readbacks or not
+pub record Steps (n id : ℕ) (s : Sequencer) (a : Answer) (due takes ends again stops reads : Bool) (t : Sequencer) : Type 0 where
   pub count-step : t .count ≡ cond (ends || again) 0 (cond (isFrame a && not due) (counted (s .count)) (s .count))
   pub missing-step : t .missing ≡ cond (again || reads) 0 (cond (isFrame a && not due) (missingWith (s .missing) (shortfall (s .last))) (s .missing))
   pub quiet-step : Quiet s → Quiet t
   pub window-step : id < 256 → windowOf t ≡ cond (ends || (again || stops)) closed (observed a due takes (windowOf s))
   pub replies-step : s .last .replies ≤ 6 → t .last .replies ≤ 6
   pub received-step : (isReceived a && not takes) ≡ true → s .last .sent ≡ true
-  pub adc-step : t .last .adc ≡ cond (ends || (again || stops)) allLost (observedAdc a due takes word (s .last .replies) (s .last .adc))
   pub index-step : 1 ≤ n → s .index < n → t .index < n
   pub countdown-step : Countdown s → Countdown t
 
@@ -75,13 +64,10 @@ observed-plain a due takes w h = rw (h .0, h .1)
 unreceived : (a : Answer) (takes : Bool) → Plain a → (isReceived a && not takes) ≡ false
 unreceived a takes h = rw (h .1)
 
-adc-plain : (a : Answer) (due takes : Bool) (word : AdcWord) (before : ℕ) (w : AdcWords) → Plain a → observedAdc a due takes word before w ≡ w
-adc-plain a due takes word before w h = rw (h .0, h .1)
-
-module _ {id : ℕ} {due takes : Bool} {word : AdcWord} where
+module _ {id : ℕ} {due takes : Bool} where
   -- kept, but for what a Group End before it did
   pub keeps-steps : (n : ℕ) (c : Channel) (a : Answer) (on : Bool) (t : Sequencer) → Plain a → Keeps (endedIf on c .sequencer) t
-      → Steps n id (c .sequencer) a due takes on false false false word t
+      → Steps n id (c .sequencer) a due takes on false false false t
   unfolding endedIf groupEnded seq.groupEnded seq.idled
   keeps-steps n c a true t h k =
       record {
@@ -92,7 +78,6 @@ module _ {id : ℕ} {due takes : Bool} {word : AdcWord} where
         window-step = λ fits. ap sendWindow (k .last-kept);
         replies-step = λ e. omega (arith, ap (λ (l : LastSend). l .replies) (k .last-kept));
         received-step = λ e. clash (sym (unreceived a takes h) ∙ e);
-        adc-step = ap (λ (l : LastSend). l .adc) (k .last-kept);
         index-step = λ e i. k .index-kept n e e;
         countdown-step = λ p. k .countdown-kept tt;
       }
@@ -105,25 +90,22 @@ module _ {id : ℕ} {due takes : Bool} {word : AdcWord} where
         window-step = λ fits. ap sendWindow (k .last-kept) ∙ sym (observed-plain a due takes (windowOf (c .sequencer)) h);
         replies-step = λ e. omega (arith, ap (λ (l : LastSend). l .replies) (k .last-kept));
         received-step = λ e. clash (sym (unreceived a takes h) ∙ e);
-        adc-step =
-            ap (λ (l : LastSend). l .adc) (k .last-kept)
-            ∙ sym (adc-plain a due takes word (c .sequencer .last .replies) (c .sequencer .last .adc) h);
         index-step = k .index-kept n;
         countdown-step = k .countdown-kept;
       }
 
-  pub kept-steps : (n : ℕ) (c : Channel) (a : Answer) (t : Sequencer) → Plain a → Keeps (c .sequencer) t → Steps n id (c .sequencer) a due takes false false false false word t
+  pub kept-steps : (n : ℕ) (c : Channel) (a : Answer) (t : Sequencer) → Plain a → Keeps (c .sequencer) t → Steps n id (c .sequencer) a due takes false false false false t
   unfolding endedIf
   kept-steps n c a t h k = keeps-steps n c a false t h k
 
   -- a call that leaves the sequencer
-  pub same-steps : (n : ℕ) (c : Channel) (a : Answer) (t : Sequencer) → Plain a → t ≡ c .sequencer → Steps n id (c .sequencer) a due takes false false false false word t
+  pub same-steps : (n : ℕ) (c : Channel) (a : Answer) (t : Sequencer) → Plain a → t ≡ c .sequencer → Steps n id (c .sequencer) a due takes false false false false t
   same-steps n c a t h e =
-      subst (λ (x : Sequencer). Steps n id (c .sequencer) a due takes false false false false word x) (sym e) (kept-steps n c a (c .sequencer) h (keeps-all (c .sequencer)))
+      subst (λ (x : Sequencer). Steps n id (c .sequencer) a due takes false false false false x) (sym e) (kept-steps n c a (c .sequencer) h (keeps-all (c .sequencer)))
 
   -- disarmed, the user changed, or reset: idle, with nothing sent
   pub idle-steps : (n : ℕ) (s : Sequencer) (armed again tag : Bool)
-      → Steps n id s ans.done due takes false again (not again) false word
+      → Steps n id s ans.done due takes false again (not again) false
       (record {
         armed = armed;
         stage = stage.Idle;
@@ -144,14 +126,13 @@ module _ {id : ℕ} {due takes : Bool} {word : AdcWord} where
         window-step = λ fits. sym (ap (λ (b : Bool). cond b closed (windowOf s)) (or-not-self again));
         replies-step = λ e. omega arith;
         received-step = λ e. clash e;
-        adc-step = sym (ap (λ (b : Bool). cond b allLost (s .last .adc)) (or-not-self again));
         index-step = λ e i. e;
         countdown-step = λ p. tt;
       }
 
   -- a read of the count of missing readbacks, or not
   pub read-steps : (n : ℕ) (c : Channel) (a : Answer) (reads : Bool) → Plain a
-      → Steps n id (c .sequencer) a due takes false false false reads word (cond reads (withMissing (c .sequencer) 0) (c .sequencer))
+      → Steps n id (c .sequencer) a due takes false false false reads (cond reads (withMissing (c .sequencer) 0) (c .sequencer))
   read-steps n c a true h =
       let same = same-steps n c a (c .sequencer) h refl in
       record {
@@ -161,7 +142,6 @@ module _ {id : ℕ} {due takes : Bool} {word : AdcWord} where
         window-step = same .window-step;
         replies-step = same .replies-step;
         received-step = same .received-step;
-        adc-step = same .adc-step;
         index-step = same .index-step;
         countdown-step = same .countdown-step;
       }
@@ -183,7 +163,7 @@ line-sends id f (transmission.Word word k) h = go (isDue (f .waiting)) refl
     go true e = clash (sym (ap isSetpoint (h e)))
     go false e = refl
 
-line-unreceived : (id : ℕ) (f : CommandFrames) (x : Transmission) → isReceived (tickLine id f x) ≡ false
+pub line-unreceived : (id : ℕ) (f : CommandFrames) (x : Transmission) → isReceived (tickLine id f x) ≡ false
 line-unreceived id f transmission.Nothing = either (λ (a : Answer). isReceived a ≡ false) (isDue (f .waiting)) refl refl
 line-unreceived id f (transmission.Word word k) = refl
 
@@ -206,13 +186,9 @@ window-few : (id : ℕ) (x : Transmission) (w : Window) → w .replies ≤ 6 →
 window-few id transmission.Nothing w h = h
 window-few id (transmission.Word word k) w h = omega arith
 
-adc-sent : (x : Transmission) (w : AdcWords) → adcAfter x w ≡ cond (isSetpoint x) allLost w
-adc-sent transmission.Nothing w = refl
-adc-sent (transmission.Word word k) w = refl
-
-pub tick-steps : {word : AdcWord} (n : ℕ) (s : Sequencer) (f : CommandFrames) (takes : Bool) (id due p : ℕ) → 1 ≤ p
+pub tick-steps : (n : ℕ) (s : Sequencer) (f : CommandFrames) (takes : Bool) (id due p : ℕ) → 1 ≤ p
     → (isDue (f .waiting) ≡ true → ticked s due n p id .transmission ≡ transmission.Nothing)
-    → Steps n id s (tickLine id f (ticked s due n p id .transmission)) (isDue (f .waiting)) takes false false false false word (ticked s due n p id .sequencer)
+    → Steps n id s (tickLine id f (ticked s due n p id .transmission)) (isDue (f .waiting)) takes false false false false (ticked s due n p id .sequencer)
 tick-steps n s f takes id due p some apart =
     let x = ticked s due n p id .transmission in
     let a = plays-ticked s due n p id in
@@ -226,7 +202,6 @@ tick-steps n s f takes id due p some apart =
       window-step = λ fits. a .window ∙ window-frame id f x (windowOf s) fits ∙ sym (rw (sent, line-unreceived id f x));
       replies-step = λ e. omega (arith, ap (λ (w : Window). w .replies) (a .window), window-few id x (windowOf s) e);
       received-step = λ e. clash (sym (ap (λ (b : Bool). b && not takes) (line-unreceived id f x)) ∙ e);
-      adc-step = c .last-adc ∙ adc-sent x (s .last .adc) ∙ sym (rw (sent, line-unreceived id f x));
       index-step = λ e. a .index-due;
       countdown-step = a .countdown some;
     }
@@ -242,10 +217,10 @@ due-facts false l e = let f = go (l .sent) e in (refl, f .0, f .1)
     go true f = (f, refl)
     go false f = clash f
 
-answered-steps : {id : ℕ} (n : ℕ) (s : Sequencer) (a : Answer) (due takes : Bool) (word : AdcWord) → isFrame a ≡ false → isReceived a ≡ true → takes ≡ false
-    → rb.isDue (isIdle (s .stage)) (s .last) ≡ true → Steps n id s a due takes false false false false word (answered s (cond (isKept a) word adc.Lost))
+answered-steps : {id : ℕ} (n : ℕ) (s : Sequencer) (a : Answer) (due takes : Bool) → isFrame a ≡ false → isReceived a ≡ true → takes ≡ false
+    → rb.isDue (isIdle (s .stage)) (s .last) ≡ true → Steps n id s a due takes false false false false (answered s)
 unfolding answered
-answered-steps n s a due takes word plain received ours e =
+answered-steps n s a due takes plain received ours e =
     let d = due-facts (isIdle (s .stage)) (s .last) e in
     record {
       count-step = sym (ap (λ (b : Bool). cond (b && not due) (counted (s .count)) (s .count)) plain);
@@ -254,28 +229,25 @@ answered-steps n s a due takes word plain received ours e =
       window-step = λ fits. rw (plain, received, ours, d .1);
       replies-step = λ f. rw (d .1) (omega (arith, ltb-true (s .last .replies) 6 (d .1)));
       received-step = λ f. d .2;
-      adc-step = rw (plain, received, ours);
       index-step = λ f i. i;
       countdown-step = λ p. p;
     }
 
 disposition-steps : {id : ℕ} (n : ℕ) (c : Channel) (m : ℕ) (right : Bool) (word : ℕ) (due takes : Bool) → takes ≡ false
-    → Steps n id (c .sequencer) (receiptAnswer (dispositionNow c m)) due takes false false false false (adcWord true right word)
-    (receivedChannel (dispositionNow c m) c m right word .sequencer)
+    → Steps n id (c .sequencer) (receiptAnswer (dispositionNow c m)) due takes false false false false (receivedChannel (dispositionNow c m) c m right word .sequencer)
 unfolding dispositionNow dispositionOf
 disposition-steps {id} n c m right word due takes ours =
     go (rb.isDue (isIdle (c .sequencer .stage)) (c .sequencer .last)) (ltb (c .readbacks .stored) (capacity m)) refl
   where
     go : (asked space : Bool) → rb.isDue (isIdle (c .sequencer .stage)) (c .sequencer .last) ≡ asked
         → let d : Disposition = cond asked (cond space disposition.Kept disposition.Lost) disposition.Unsolicited in
-        Steps n id (c .sequencer) (receiptAnswer d) due takes false false false false (adcWord true right word) (receivedChannel d c m right word .sequencer)
-    go true true e = answered-steps n (c .sequencer) ans.kept due takes (adcWord true right word) refl refl ours e
-    go true false e = answered-steps n (c .sequencer) ans.lost due takes (adcWord true right word) refl refl ours e
+        Steps n id (c .sequencer) (receiptAnswer d) due takes false false false false (receivedChannel d c m right word .sequencer)
+    go true true e = answered-steps n (c .sequencer) ans.kept due takes refl refl ours e
+    go true false e = answered-steps n (c .sequencer) ans.lost due takes refl refl ours e
     go false space e = same-steps n c ans.unsolicited (c .sequencer) (refl, refl) refl
 
 -- a reply to a command frame leaves the sequencer, and counts for no setpoint
-command-steps : {id : ℕ} {word : AdcWord} (n : ℕ) (c : Channel) (due takes : Bool) → takes ≡ true
-    → Steps n id (c .sequencer) ans.kept due takes false false false false word (c .sequencer)
+command-steps : {id : ℕ} (n : ℕ) (c : Channel) (due takes : Bool) → takes ≡ true → Steps n id (c .sequencer) ans.kept due takes false false false false (c .sequencer)
 command-steps n c due takes theirs =
     record {
       count-step = refl;
@@ -284,24 +256,21 @@ command-steps n c due takes theirs =
       window-step = λ fits. rw theirs;
       replies-step = λ e. e;
       received-step = λ e. clash (sym (ap not theirs) ∙ e);
-      adc-step = rw theirs;
       index-step = λ e i. i;
       countdown-step = λ p. p;
     }
 
 pub reply-steps : {own : ℕ} (n : ℕ) (c : Channel) (m f : ℕ) (due : Bool)
-    → Steps n own (c .sequencer) (replyAnswer c m f) due (cmd.takes (c .commands)) false false false false (adcIn (read f)) (replyOf c m f .sequencer)
+    → Steps n own (c .sequencer) (replyAnswer c m f) due (cmd.takes (c .commands)) false false false false (replyOf c m f .sequencer)
 unfolding replyAnswer replyOf
 reply-steps {own} n c m f due = go (read f)
   where
     fields : (id word aux crc : ℕ) (b : Bool) → cmd.takes (c .commands) ≡ b
         → Steps n own (c .sequencer) (cond b ans.kept (receiptAnswer (dispositionNow c m))) due (cmd.takes (c .commands)) false false false false
-        (adcWord true (crcRight id word aux crc) word)
         (cond b (commandReply c (crcRight id word aux crc) id word) (receivedChannel (dispositionNow c m) c m (crcRight id word aux crc) word) .sequencer)
     fields id word aux crc true e = command-steps n c due (cmd.takes (c .commands)) e
     fields id word aux crc false e = disposition-steps n c m (crcRight id word aux crc) word due (cmd.takes (c .commands)) e
 
-    go : (g : Reading)
-        → Steps n own (c .sequencer) (replyAnswerAs g c m) due (cmd.takes (c .commands)) false false false false (adcIn g) (replyAs g c m .sequencer)
+    go : (g : Reading) → Steps n own (c .sequencer) (replyAnswerAs g c m) due (cmd.takes (c .commands)) false false false false (replyAs g c m .sequencer)
     go (frame.refused k) = same-steps n c (ans.refused k) (c .sequencer) (refl, refl) refl
     go (frame.fields id word aux crc) = fields id word aux crc (cmd.takes (c .commands)) refl

@@ -10,7 +10,6 @@ use borrow.Table.Elements.{map-app}
 use Rattle.frame.specs.Frames.{read, framed, idOf, dataOf, auxOf, crcIn, crcRight}
 use Rattle.frame.specs.Frames as frame
 use Rattle.status.specs.Bits.{bitAt}
-use Rattle.adc_words.specs.declared.AdcWord.{AdcWord}
 use Rattle.readback.proofs.Laws.{stored-tag}
 use Rattle.command_frames.specs.Commanding.{takes}
 use Rattle.channel_core.specs.State as state
@@ -91,9 +90,7 @@ marked-asked : (o : OneChannel) (k : ChannelCall) (g : Tags) → ApartIn (o .cha
     → (isKept (response o k) && not (takes (o .channel .commands))) ≡ true → Marked (g .tagged) (asks o k .word)
 marked-asked o k g p h e =
     let sent = steps o k p .received-step (kept-received (response o k) (not (takes (o .channel .commands))) e) in
-    brought (λ (words : List ℕ) (a : AdcWord). Marked (g .tagged) words) o k
-    (λ lent f is. subst (λ (mark : Bool). Marked mark (replyWord o (read f))) (h .tagged sent) (marked-reply o f))
-    refl
+    brought (Marked (g .tagged)) o k (λ f. subst (λ (mark : Bool). Marked mark (replyWord o (read f))) (h .tagged sent) (marked-reply o f)) refl
 
 marked-stored : (o : OneChannel) (k : ChannelCall) (g : Tags) → ApartIn (o .channel) → Held (o .channel) g → Marked (g .tagged) (storedBy (toldAt o k))
 marked-stored o k g p h =

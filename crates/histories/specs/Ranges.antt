@@ -1,7 +1,7 @@
 -- Document 01, 'The bench and its memory' and 'A channel's life': the ranges of what a channel holds, which it keeps to over any list of calls. So no
 -- default past a list's end or below a range is ever used. Document 02, card 1: nor that of a tick on which a command frame and a setpoint would leave.
 -- Card 2: the count of missing readbacks. Card 3: a place of each readback buffer is left for its end word. Card 6: 2C is a
--- seventh event register. Card 7: the data of the last send's ADC words, so that each has a code of 16 bits.
+-- seventh event register. Card 7: the data of ADC words, so that each has a code of 16 bits.
 use Prim.Native.Nat.{ℕ, _-_, _*_, _≤_, _<_}
 use mathlib.Core.Path.{_≡_}
 use mathlib.Core.Bool.{Bool, true, false}
@@ -49,23 +49,10 @@ ApartAt stage.Ended left = ⊥
 abbrev pub Quiet : Sequencer → Type 0
 Quiet s = isIdle (s .stage) ≡ true → s .last ≡ nothingSent
 
--- the data of an ADC word has 16 bits
-abbrev pub AdcInRange : AdcWord → Type 0
-AdcInRange adc.Lost = Unit {0}
-AdcInRange adc.Damaged = Unit {0}
-AdcInRange (adc.Data word) = word < 65536
-
-pub record AdcWordsInRange (w : AdcWords) : Type 0 where
-  pub third : AdcInRange (w .third)
-  pub fourth : AdcInRange (w .fourth)
-  pub fifth : AdcInRange (w .fifth)
-  pub sixth : AdcInRange (w .sixth)
-
 pub record SequencerInRange (n : ℕ) (s : Sequencer) : Type 0 where
   pub index-due : s .index < n
   pub countdown : Countdown s
   pub replies : s .last .replies ≤ 6
-  pub adc : AdcWordsInRange (s .last .adc)
   pub missing : s .missing ≤ 255
   pub quiet : Quiet s
 
@@ -92,6 +79,18 @@ pub record ReadbacksInRange (m : ℕ) (r : Readbacks) : Type 0 where
   pub stored : r .stored ≤ m - 1
   pub retired : r .retired ≤ m - 1
 
+-- the data of an ADC word has 16 bits
+abbrev pub AdcInRange : AdcWord → Type 0
+AdcInRange adc.Lost = Unit {0}
+AdcInRange adc.Damaged = Unit {0}
+AdcInRange (adc.Data word) = word < 65536
+
+pub record AdcWordsInRange (w : AdcWords) : Type 0 where
+  pub third : AdcInRange (w .third)
+  pub fourth : AdcInRange (w .fourth)
+  pub fifth : AdcInRange (w .fifth)
+  pub sixth : AdcInRange (w .sixth)
+
 -- "six pairs", of which FE counts those that came
 pub record CommandsInRange (f : CommandFrames) : Type 0 where
   pub count : f .count ≤ 6
@@ -102,6 +101,7 @@ pub record ChannelInRange (m : ℕ) (c : Channel) : Type 0 where
   pub status : StatusInRange (c .status)
   pub registers : RegistersInRange (c .registers)
   pub readbacks : ReadbacksInRange m (c .readbacks)
+  pub adc : AdcWordsInRange (c .adc)
   pub commands : CommandsInRange (c .commands)
 
 -- command frames and setpoints keep apart: neither leaves with the other, and while one waits for the next tick, or replies go to E4–FA, no setpoint

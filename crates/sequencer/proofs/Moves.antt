@@ -6,10 +6,9 @@ use native.Mathlib.Omega.{arith}
 use lib.Dec.{leb, ltb, eqb}
 use borrow.Author.Tests.{eq-eqb, ne-eqb, eqb-true, ltb-true, ltb-false}
 use Rattle.status.specs.Bits.{bitAt}
-use Rattle.adc_words.specs.declared.AdcWord.{AdcWord}
 use Rattle.sequencer.specs.Words.{kindOf}
 use Rattle.sequencer.specs.Playing.{opened, idled, armed, disarmed, started, loadedResume, resumedAt, resumed, answered, groupEnded, tagged, withTag, shortfall, sentNext, sentAs, repeated, quiet, withLeft, withResume, advancing, repeating, resuming, tickedAt, ticked}
-use Rattle.sequencer.specs.Runs.{countAfter, missingAfter, tagAfter, taggedAfter, adcAfter, asNumber}
+use Rattle.sequencer.specs.Runs.{countAfter, missingAfter, tagAfter, taggedAfter, asNumber}
 use Rattle.sequencer.specs.declared.Kind.the-variants as kind
 use Rattle.sequencer.specs.declared.Stage.{Stage}
 use Rattle.sequencer.specs.declared.Stage.the-variants as stage
@@ -61,13 +60,12 @@ last-bit w false h = rw h
 pub last-place : (w : ℕ) → kindOf w true ≡ kind.Last
 last-place w = refl
 
--- this tick, from s: both counts, the tag not yet used, whether the last send used one, its ADC words, and that the channel stays armed or not
+-- this tick, from s: both counts, the tag not yet used, whether the last send used one, and that the channel stays armed or not
 pub record Moved (s : Sequencer) (t : Ticked) : Type 0 where
   pub count : t .sequencer .count ≡ countAfter (t .transmission) (s .count)
   pub missing : t .sequencer .missing ≡ missingAfter (t .transmission) (s .last) (s .missing)
   pub tag : t .sequencer .tag ≡ tagAfter (t .transmission) (s .tag)
   pub last-tagged : t .sequencer .last .tagged ≡ taggedAfter (t .transmission) (s .tag) (s .last .tagged)
-  pub last-adc : t .sequencer .last .adc ≡ adcAfter (t .transmission) (s .last .adc)
   pub armed : t .sequencer .armed ≡ s .armed
 
 moved-if : (s : Sequencer) (e : Bool) (a b : Ticked) → Moved s a → Moved s b → Moved s (cond e a b)
@@ -76,11 +74,11 @@ moved-if s false a b h k = k
 
 -- nothing is transmitted, and only a countdown moves
 moved-left : (s : Sequencer) (left : ℕ) → Moved s (quiet (withLeft s left))
-moved-left s left = record { count = refl; missing = refl; tag = refl; last-tagged = refl; last-adc = refl; armed = refl }
+moved-left s left = record { count = refl; missing = refl; tag = refl; last-tagged = refl; armed = refl }
 
 moved-next : (s : Sequencer) (due n p id : ℕ) → Moved s (sentNext s due n p id)
 unfolding sentNext sentAs
-moved-next s due n p id = record { count = refl; missing = refl; tag = refl; last-tagged = refl; last-adc = refl; armed = refl }
+moved-next s due n p id = record { count = refl; missing = refl; tag = refl; last-tagged = refl; armed = refl }
 
 moved-advancing : (s : Sequencer) (due n p id : ℕ) → Moved s (advancing s due n p id)
 unfolding advancing
@@ -89,7 +87,7 @@ moved-advancing s due n p id = moved-if s (leb (s .left) 1) (sentNext s due n p 
 moved-repeating : (s : Sequencer) (p id : ℕ) → Moved s (repeating s p id)
 unfolding repeating repeated
 moved-repeating s p id =
-    moved-if s (leb (s .left) 1) (repeated s p id) _ (record { count = refl; missing = refl; tag = refl; last-tagged = refl; last-adc = refl; armed = refl })
+    moved-if s (leb (s .left) 1) (repeated s p id) _ (record { count = refl; missing = refl; tag = refl; last-tagged = refl; armed = refl })
     (moved-left s (s .left - 1))
 
 moved-resuming : (s : Sequencer) (due n p id : ℕ) → Moved s (resuming s due n p id)
@@ -100,11 +98,11 @@ moved-resuming s due n p id =
     moved-if s (leb (s .resume) 1) (sentNext s due n p id) (cond (leb (s .resume) 10) (quiet t) (repeating t p id))
     (moved-next s due n p id)
     (moved-if s (leb (s .resume) 10) (quiet t) (repeating t p id)
-    (record { count = refl; missing = refl; tag = refl; last-tagged = refl; last-adc = refl; armed = refl })
-    (record { count = r .count; missing = r .missing; tag = r .tag; last-tagged = r .last-tagged; last-adc = r .last-adc; armed = r .armed }))
+    (record { count = refl; missing = refl; tag = refl; last-tagged = refl; armed = refl })
+    (record { count = r .count; missing = r .missing; tag = r .tag; last-tagged = r .last-tagged; armed = r .armed }))
 
 moved-at : (g : Stage) (s : Sequencer) (due n p id : ℕ) → Moved s (tickedAt g s due n p id)
-moved-at stage.Idle s due n p id = record { count = refl; missing = refl; tag = refl; last-tagged = refl; last-adc = refl; armed = refl }
+moved-at stage.Idle s due n p id = record { count = refl; missing = refl; tag = refl; last-tagged = refl; armed = refl }
 moved-at stage.Starting s due n p id = moved-advancing s due n p id
 moved-at stage.Running s due n p id = moved-advancing s due n p id
 moved-at (stage.Paused k) s due n p id = moved-repeating s p id
@@ -112,7 +110,7 @@ moved-at stage.Resuming s due n p id = moved-resuming s due n p id
 moved-at stage.Ended s due n p id = moved-repeating s p id
 
 -- 7. A tick that transmits a word counts it, and the readbacks missing after the send before, and uses the tag, if there is one; one that transmits
--- nothing leaves both counts, the tag, and of the last send the mark and the ADC words.
+-- nothing leaves both counts, the tag, and the mark of the last send.
 pub moved : (s : Sequencer) (due n p id : ℕ) → Moved s (ticked s due n p id)
 unfolding ticked
 moved s due n p id = moved-at (s .stage) s due n p id
@@ -126,7 +124,7 @@ pub counts-stay : (s : Sequencer)
     → CountsStay s (idled s)
     × CountsStay s (armed s)
     × CountsStay s (disarmed s)
-    × ((word : AdcWord) → CountsStay s (answered s word))
+    × CountsStay s (answered s)
     × CountsStay s (tagged s)
     × ((delay : ℕ) → CountsStay s (started s delay))
     × ((k delay : ℕ) → CountsStay s (resumed s k delay))
@@ -135,7 +133,7 @@ counts-stay s = (
   (refl, refl),
   (refl, refl),
   (refl, refl),
-  λ word. (refl, refl),
+  (refl, refl),
   tag (s .armed),
   λ delay. (refl, refl),
   λ k delay. resumed-either (CountsStay s) s k delay (λ e. (refl, refl)) (refl, refl),
@@ -189,11 +187,11 @@ tag-ignored s e = rw e
 -- "Group End, disarm and reset drop a tag not yet used.": Start and Resume, idling as at a user change, and a reply leave it
 pub tag-stays : (s : Sequencer)
     → (idled s .tag ≡ s .tag)
-    × ((word : AdcWord) → answered s word .tag ≡ s .tag)
+    × (answered s .tag ≡ s .tag)
     × ((delay : ℕ) → started s delay .tag ≡ s .tag)
     × ((k delay : ℕ) → resumed s k delay .tag ≡ s .tag)
 unfolding idled answered started
-tag-stays s = (refl, λ word. refl, λ delay. refl, λ k delay. resumed-either (λ (t : Sequencer). t .tag ≡ s .tag) s k delay (λ e. refl) refl)
+tag-stays s = (refl, refl, λ delay. refl, λ k delay. resumed-either (λ (t : Sequencer). t .tag ≡ s .tag) s k delay (λ e. refl) refl)
 
 pub tag-dropped : (s : Sequencer) → (groupEnded s .tag ≡ false) × (disarmed s .tag ≡ false) × (opened .tag ≡ false)
 unfolding groupEnded disarmed

@@ -8,13 +8,9 @@
 --   "the setpoint count"                                  count
 -- Document 02, card 2: "The channel record carries the Frame ID of its last setpoint send and this count."   last .id, missing
 -- Card 6: "a tag not yet used"; "that send", the one that used it   tag; last .tagged
--- Card 7: the ADC words of "its last setpoint send since idle"   last .adc
 use Prim.Native.Nat.{ℕ, _+_, _-_, min}
 use mathlib.Core.Bool.{Bool, true, false, cond, not, _&&_}
 use lib.Dec.{leb, ltb, eqb}
-use Rattle.adc_words.specs.declared.AdcWord.{AdcWord}
-use Rattle.adc_words.specs.declared.AdcWords.{AdcWords}
-use Rattle.adc_words.specs.Positions.{allLost, withReply}
 use Rattle.sequencer.specs.Words.{atEnd, kindOf, stageAfter, indexAfter, conditionOf, pauses, ends}
 use Rattle.sequencer.specs.declared.Kind.{Kind}
 use Rattle.sequencer.specs.declared.Stage.{Stage}
@@ -60,9 +56,9 @@ isEnded (stage.Paused k) = false
 isEnded stage.Resuming = false
 isEnded stage.Ended = true
 
--- "the last send since idle (if any ..)": none, and then no Frame ID is looked at; card 7: "with none, all four are lost"
+-- "the last send since idle (if any ..)": none, and then no Frame ID is looked at
 abbrev pub nothingSent : LastSend
-nothingSent = record { sent = false; first = false; paused = false; last = false; id = 0; tagged = false; replies = 0; adc = allLost }
+nothingSent = record { sent = false; first = false; paused = false; last = false; id = 0; tagged = false; replies = 0 }
 
 -- "channels disarmed", nothing under way, nothing counted
 abbrev pub opened : Sequencer
@@ -179,7 +175,7 @@ abbrev pub missingWith : ℕ → ℕ → ℕ
 missingWith missing more = min (missing + more) 255
 
 -- the word due is sent, of this kind, with this Frame ID: "After a send the next follows one period later." A tag not yet used marks this send, and so
--- "the send after it ends the mark", here and where a word is repeated. No reply has come, so its ADC words are lost.
+-- "the send after it ends the mark", here and where a word is repeated.
 unfoldable pub sentAs : Sequencer → ℕ → ℕ → ℕ → Kind → Ticked
 sentAs s due period id k =
     record {
@@ -190,7 +186,7 @@ sentAs s due period id k =
         resume = 0;
         index = indexAfter k (s .index);
         word = due;
-        last = record { sent = true; first = isStarting (s .stage); paused = pauses k; last = ends k; id = id; tagged = s .tag; replies = 0; adc = allLost };
+        last = record { sent = true; first = isStarting (s .stage); paused = pauses k; last = ends k; id = id; tagged = s .tag; replies = 0 };
         count = counted (s .count);
         missing = missingWith (s .missing) (shortfall (s .last));
         tag = false;
@@ -213,7 +209,7 @@ repeated s period id =
         resume = s .resume;
         index = s .index;
         word = s .word;
-        last = record { sent = true; first = false; paused = isPaused (s .stage); last = isEnded (s .stage); id = id; tagged = s .tag; replies = 0; adc = allLost };
+        last = record { sent = true; first = false; paused = isPaused (s .stage); last = isEnded (s .stage); id = id; tagged = s .tag; replies = 0 };
         count = counted (s .count);
         missing = missingWith (s .missing) (shortfall (s .last));
         tag = false;
@@ -252,15 +248,12 @@ tickedAt stage.Ended s due n period id = repeating s period id
 unfoldable pub ticked : Sequencer → ℕ → ℕ → ℕ → ℕ → Ticked
 ticked s due n period id = tickedAt (s .stage) s due n period id
 
-abbrev pub withReplies : LastSend → ℕ → AdcWords → LastSend
-withReplies l replies adc =
-    record { sent = l .sent; first = l .first; paused = l .paused; last = l .last; id = l .id; tagged = l .tagged; replies = replies; adc = adc }
+abbrev pub withReplies : LastSend → ℕ → LastSend
+withReplies l replies = record { sent = l .sent; first = l .first; paused = l .paused; last = l .last; id = l .id; tagged = l .tagged; replies = replies }
 
--- one more reply after the last send; six are counted. `become` is what becomes of it, kept where its position is that of an ADC word.
-unfoldable pub answered : Sequencer → AdcWord → Sequencer
-answered s become =
-    withLast s
-    (withReplies (s .last) (cond (ltb (s .last .replies) 6) (s .last .replies + 1) (s .last .replies)) (withReply (s .last .adc) (s .last .replies) become))
+-- one more reply after the last send; six are counted
+unfoldable pub answered : Sequencer → Sequencer
+answered s = withLast s (withReplies (s .last) (cond (ltb (s .last .replies) 6) (s .last .replies + 1) (s .last .replies)))
 
 -- Group End: "idle; .. the setpoint count is .. cleared"; card 6: it drops "a tag not yet used"
 unfoldable pub groupEnded : Sequencer → Sequencer

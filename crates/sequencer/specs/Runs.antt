@@ -3,8 +3,6 @@
 use Prim.Native.Nat.{ℕ, zero, suc, _+_, _*_, _<_}
 use mathlib.Core.Path.{_≡_}
 use mathlib.Core.Bool.{Bool, true, false}
-use Rattle.adc_words.specs.declared.AdcWords.{AdcWords}
-use Rattle.adc_words.specs.Positions.{allLost}
 use Rattle.sequencer.specs.Words.{atEnd, kindOf, stageAfter, indexAfter, conditionOf}
 use Rattle.sequencer.specs.Playing.{ticked, counted, shortfall, missingWith, withLast, withTag}
 use Rattle.sequencer.specs.declared.Kind.{Kind}
@@ -103,14 +101,9 @@ abbrev pub taggedAfter : Transmission → (tag tagged : Bool) → Bool
 taggedAfter transmission.Nothing tag tagged = tagged
 taggedAfter (transmission.Word word condition) tag tagged = tag
 
--- card 7: the ADC words of the last send: a send, a repeat too, has no reply yet
-abbrev pub adcAfter : Transmission → AdcWords → AdcWords
-adcAfter transmission.Nothing adc = adc
-adcAfter (transmission.Word word condition) adc = allLost
-
 -- the same send without "the mark"; and the same state without it and without "a tag not yet used"
 abbrev pub unmarked : LastSend → LastSend
-unmarked l = record { sent = l .sent; first = l .first; paused = l .paused; last = l .last; id = l .id; tagged = false; replies = l .replies; adc = l .adc }
+unmarked l = record { sent = l .sent; first = l .first; paused = l .paused; last = l .last; id = l .id; tagged = false; replies = l .replies }
 
 abbrev pub untagged : Sequencer → Sequencer
 untagged s = withTag (withLast s (unmarked (s .last))) false

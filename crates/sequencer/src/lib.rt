@@ -5,8 +5,6 @@ pub mod stages;
 mod ticks;
 mod words;
 
-use adc_words::AdcWord;
-use adc_words::AdcWords;
 ghost use mathlib.Core.Path.{_≡_};
 ghost use Prim.Native.Nat.{_≤_};
 ghost use Rattle.sequencer.specs.Playing.{opened, unfinished, nothingSent, shortfall, missingWith, idled, armed, disarmed, started, resumed, answered, groupEnded, tagged, withMissing};
@@ -36,8 +34,7 @@ pub enum Kind {
     Last,
 }
 
-// The last send since idle, if any, what it was, the Frame ID that it carried, whether it used a tag, the replies after it, and what became of those that
-// are its ADC words.
+// The last send since idle, if any, what it was, the Frame ID that it carried, whether it used a tag, and the replies after it.
 pub struct LastSend {
     pub sent: bool,
     pub first: bool,
@@ -46,7 +43,6 @@ pub struct LastSend {
     pub id: u8,
     pub tagged: bool,
     pub replies: u8,
-    pub adc: AdcWords,
 }
 
 pub struct Sequencer {
@@ -102,7 +98,6 @@ impl LastSend {
             id: 0,
             tagged: false,
             replies: 0,
-            adc: AdcWords::lost(),
         }
     }
 
@@ -239,15 +234,13 @@ impl Sequencer {
         }
     }
 
-    // A reply after the last send, kept or lost; `word` is what becomes of it.
-    pub fn answered(self, word: AdcWord) -> Sequencer
-        ensures { λ r. ⌜ r ≡ answered self word ⌝ }
+    // A reply after the last send, kept or lost.
+    pub fn answered(self) -> Sequencer
+        ensures { λ r. ⌜ r ≡ answered self ⌝ }
     {
         let mut next = self;
         let mut last = next.last;
         let replies = last.replies;
-        let adc = last.adc;
-        last.adc = adc.with_reply(replies, word);
         if replies < 6 {
             last.replies = replies + 1;
         }

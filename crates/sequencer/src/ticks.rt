@@ -7,7 +7,6 @@ use crate::Transmission;
 use crate::add_missing;
 use crate::stages;
 use crate::words;
-use adc_words::AdcWords;
 ghost use mathlib.Core.Path.{_≡_};
 ghost use Rattle.sequencer.specs.Playing.{counted, sentNext, repeated, quiet, advancing, repeating, resuming, ticked};
 
@@ -53,7 +52,6 @@ impl Sequencer {
                     id: id,
                     tagged: self.tag,
                     replies: 0,
-                    adc: AdcWords::lost(),
                 },
                 count: count_up(self.count),
                 missing: add_missing(self.missing, last.shortfall()),
@@ -88,7 +86,6 @@ impl Sequencer {
                     id: id,
                     tagged: self.tag,
                     replies: 0,
-                    adc: AdcWords::lost(),
                 },
                 count: count_up(self.count),
                 missing: add_missing(self.missing, last.shortfall()),

@@ -16,7 +16,7 @@ latched-by-requires : tie.Need-latched-by-requires
 latched-by-requires c κs = search needs
 
 returns : tie.Need-returns
-returns c = simp (c .enum-told .given .1)
+returns c = search needs
 
 returns-2 : tie.Need-returns-2
 returns-2 c = simp (c .latched-by .ensures, c .before .shortfall .ensures, c .before .before .before .sent .given .1)

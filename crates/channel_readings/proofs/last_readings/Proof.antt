@@ -4,6 +4,9 @@ use Rattle.channel_readings.specs.Measuring.{readingsAnswer}
 use Rattle.channel_readings.proofs.last_readings.Statement.{statement}
 use Rattle.channel_readings.proofs.last_readings.Tie as tie
 
+arrived-requires : tie.Need-arrived-requires
+arrived-requires c κs = search needs
+
 measured-requires : tie.Need-measured-requires
 measured-requires c κs = search needs
 
@@ -19,7 +22,13 @@ measured-requires-4 c κs = search needs
 returns : tie.Need-returns
 unfolding readingsAnswer
 returns c =
-    simp (c .measured4 .ensures, c .before .measured3 .ensures, c .before .before .measured2 .ensures, c .before .before .before .measured .ensures)
+    simp (
+      c .measured4 .ensures,
+      c .before .measured3 .ensures,
+      c .before .before .measured2 .ensures,
+      c .before .before .before .measured .ensures,
+      c .before .before .before .before .arrived .ensures,
+    )
 
 pub last-readings-spec : {M : Type 1} → statement M
-last-readings-spec = tie.close (tie.spec measured-requires measured-requires-2 measured-requires-3 measured-requires-4 returns)
+last-readings-spec = tie.close (tie.spec arrived-requires measured-requires measured-requires-2 measured-requires-3 measured-requires-4 returns)

@@ -16,6 +16,9 @@ opened-requires-3 c κs = search needs
 opened-requires-4 : tie.Need-opened-requires-4
 opened-requires-4 c κs = search needs
 
+lost-requires : tie.Need-lost-requires
+lost-requires c κs = search needs
+
 opened-requires-5 : tie.Need-opened-requires-5
 opened-requires-5 c κs = search needs
 
@@ -24,13 +27,14 @@ unfolding opened
 returns c =
     simp (
       c .opened5 .ensures,
-      c .before .opened4 .ensures,
-      c .before .before .opened3 .ensures,
-      c .before .before .before .opened2 .ensures,
-      c .before .before .before .before .opened .ensures,
+      c .before .lost .ensures,
+      c .before .before .opened4 .ensures,
+      c .before .before .before .opened3 .ensures,
+      c .before .before .before .before .opened2 .ensures,
+      c .before .before .before .before .before .opened .ensures,
     )
 
 pub opened-spec : {M : Type 1} → statement M
 opened-spec =
     tie.close
-    (tie.spec opened-requires opened-requires-2 opened-requires-3 opened-requires-4 opened-requires-5 returns)
+    (tie.spec opened-requires opened-requires-2 opened-requires-3 opened-requires-4 lost-requires opened-requires-5 returns)

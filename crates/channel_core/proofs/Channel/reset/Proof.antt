@@ -16,6 +16,9 @@ opened-requires-2 c κs = search needs
 opened-requires-3 : tie.Need-opened-requires-3
 opened-requires-3 c κs = search needs
 
+lost-requires : tie.Need-lost-requires
+lost-requires c κs = search needs
+
 opened-requires-4 : tie.Need-opened-requires-4
 opened-requires-4 c κs = search needs
 
@@ -24,13 +27,14 @@ unfolding reset
 returns c =
     simp (
       c .opened4 .ensures,
-      c .before .opened3 .ensures,
-      c .before .before .opened2 .ensures,
-      c .before .before .before .opened .ensures,
-      c .before .before .before .before .reset .ensures,
+      c .before .lost .ensures,
+      c .before .before .opened3 .ensures,
+      c .before .before .before .opened2 .ensures,
+      c .before .before .before .before .opened .ensures,
+      c .before .before .before .before .before .reset .ensures,
     )
 
 pub reset-spec : {M : Type 1} → statement M
 reset-spec =
     tie.close
-    (tie.spec reset-requires opened-requires opened-requires-2 opened-requires-3 opened-requires-4 returns)
+    (tie.spec reset-requires opened-requires opened-requires-2 opened-requires-3 lost-requires opened-requires-4 returns)

@@ -10,9 +10,6 @@ is-paused-requires c κs = search needs
 is-ended-requires : tie.Need-is-ended-requires
 is-ended-requires c κs = search needs
 
-lost-requires : tie.Need-lost-requires
-lost-requires c κs = search needs
-
 count-up-requires : tie.Need-count-up-requires
 count-up-requires c κs = search needs
 
@@ -29,10 +26,9 @@ returns c =
       c .add-missing .ensures,
       c .before .shortfall .ensures,
       c .before .before .count-up .ensures,
-      c .before .before .before .lost .ensures,
-      c .before .before .before .before .is-ended .ensures,
-      c .before .before .before .before .before .is-paused .ensures,
+      c .before .before .before .is-ended .ensures,
+      c .before .before .before .before .is-paused .ensures,
     )
 
 pub repeat-spec : {M : Type 1} → statement M
-repeat-spec = tie.close (tie.spec is-paused-requires is-ended-requires lost-requires count-up-requires shortfall-requires add-missing-requires returns)
+repeat-spec = tie.close (tie.spec is-paused-requires is-ended-requires count-up-requires shortfall-requires add-missing-requires returns)

@@ -37,9 +37,6 @@ pauses-requires c κs = search needs
 ends-requires : tie.Need-ends-requires
 ends-requires c κs = search needs
 
-lost-requires : tie.Need-lost-requires
-lost-requires c κs = search needs
-
 count-up-requires : tie.Need-count-up-requires
 count-up-requires c κs = search needs
 
@@ -51,24 +48,23 @@ add-missing-requires c κs = search needs
 
 condition-of-requires : tie.Need-condition-of-requires
 condition-of-requires c κs =
-    let k = c .before .before .before .before .before .before .before .before .before in
+    let k = c .before .before .before .before .before .before .before .before in
     let a = k .before .before .before .args in
     rw (found k) (omega (arith, condition-at-most (a .due) (atEnd (a .n) (a .self .index))))
 
 returns : tie.Need-returns
 unfolding sentNext sentAs
 returns c =
-    let i = c .before .before .before .before .before .before .before .before in
+    let i = c .before .before .before .before .before .before .before in
     rw (← found (i .before .before)) (
     simp (
       c .condition-of .ensures,
       c .before .add-missing .ensures,
       c .before .before .shortfall .ensures,
       c .before .before .before .count-up .ensures,
-      c .before .before .before .before .lost .ensures,
-      c .before .before .before .before .before .ends .ensures,
-      c .before .before .before .before .before .before .pauses .ensures,
-      c .before .before .before .before .before .before .before .is-starting .ensures,
+      c .before .before .before .before .ends .ensures,
+      c .before .before .before .before .before .pauses .ensures,
+      c .before .before .before .before .before .before .is-starting .ensures,
       i .index-after .ensures,
       i .before .stage-after .ensures,
     )
@@ -85,7 +81,6 @@ send-next-spec =
     is-starting-requires
     pauses-requires
     ends-requires
-    lost-requires
     count-up-requires
     shortfall-requires
     add-missing-requires

@@ -7,7 +7,7 @@ is-idle-requires : tie.Need-is-idle-requires
 is-idle-requires c κs = search needs
 
 returns : tie.Need-returns
-returns c = rw (← c .before .is-idle .ensures, c .if1 .taken)
+returns c = search needs
 
 is-ended-requires : tie.Need-is-ended-requires
 is-ended-requires c κs = search needs
