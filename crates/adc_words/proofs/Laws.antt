@@ -8,9 +8,8 @@ use lib.Dec.{eqb, ltb}
 use lib.ListN.{length}
 use borrow.Author.Tests.{ne-eqb, eqb-true, eqb-false, lt-ltb, le-ltb, ltb-true, ltb-false}
 use Rattle.adc_words.specs.declared.AdcWord.{AdcWord}
-use Rattle.adc_words.specs.declared.AdcWord.the-variants as word
 use Rattle.adc_words.specs.declared.AdcWords.{AdcWords}
-use Rattle.adc_words.specs.Positions.{allLost, withReply, arrived, wordsOf}
+use Rattle.adc_words.specs.Positions.{noReply, noneArrived, withReply, arrived, wordsOf}
 
 -- past the six no reply has a place
 past-six : (w : AdcWords) (k : ℕ) (a : AdcWord) → 6 ≤ k → withReply w k a ≡ w
@@ -29,14 +28,14 @@ one-more (p ∷ q ∷ r ∷ s ∷ t ∷ u ∷ rest) a =
     past-six (wordsOf (p ∷ q ∷ r ∷ s ∷ t ∷ u ∷ rest)) (length (p ∷ q ∷ r ∷ s ∷ t ∷ u ∷ rest)) a (omega arith)
 
 -- at a position, p replies having come before that reply
-place : (p k : ℕ) (x a : AdcWord) → cond (ltb p (k + 1)) (cond (eqb k p) a x) word.Lost ≡ cond (eqb k p) a (cond (ltb p k) x word.Lost)
+place : (p k : ℕ) (x a : AdcWord) → cond (ltb p (k + 1)) (cond (eqb k p) a x) noReply ≡ cond (eqb k p) a (cond (ltb p k) x noReply)
 place p k x a = go (eqb k p) refl
   where
-    go : (here : Bool) → eqb k p ≡ here → cond (ltb p (k + 1)) (cond here a x) word.Lost ≡ cond here a (cond (ltb p k) x word.Lost)
+    go : (here : Bool) → eqb k p ≡ here → cond (ltb p (k + 1)) (cond here a x) noReply ≡ cond here a (cond (ltb p k) x noReply)
     go true e = rw (lt-ltb p (k + 1) (omega (arith, eqb-true k p e)))
     go false e = further (ltb p k) refl
       where
-        further : (past : Bool) → ltb p k ≡ past → cond (ltb p (k + 1)) x word.Lost ≡ cond past x word.Lost
+        further : (past : Bool) → ltb p k ≡ past → cond (ltb p (k + 1)) x noReply ≡ cond past x noReply
         further true f = rw (lt-ltb p (k + 1) (omega (arith, ltb-true p k f)))
         further false f = rw (le-ltb p (k + 1) (omega (arith, ltb-false p k f, eqb-false k p e)))
 
@@ -45,6 +44,6 @@ unfolding arrived withReply
 arrived-more w k a =
     rw (place 2 k (w .third) a, place 3 k (w .fourth) a, place 4 k (w .fifth) a, place 5 k (w .sixth) a)
 
-pub arrived-none : (w : AdcWords) → arrived w 0 ≡ allLost
+pub arrived-none : (w : AdcWords) → arrived w 0 ≡ noneArrived
 unfolding arrived
 arrived-none w = refl

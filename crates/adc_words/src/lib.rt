@@ -1,16 +1,13 @@
-// The ADC words of a send, its third to sixth replies: what became of each. A send need not clear those of the send before: they count only as far as replies
-// have come.
+// The ADC words of a send, its third to sixth replies. A send need not clear those of the send before: they count only as far as replies have come.
 ghost use mathlib.Core.Path.{_≡_};
 ghost use mathlib.Core.Bool.{cond};
-ghost use Rattle.adc_words.specs.Positions.{allLost, adcWord, withReply, arrived};
+ghost use Rattle.adc_words.specs.Positions.{noReply, noneArrived, withReply, arrived};
 
-pub enum AdcWord {
-    // The reply has not come, or was not stored.
-    Lost,
-    // Stored, with a wrong CRC.
-    Damaged,
-    // Stored, with this data.
-    Data(u16),
+// A reply: stored or not, its CRC right or not, and its data.
+pub struct AdcWord {
+    pub stored: bool,
+    pub right: bool,
+    pub data: u16,
 }
 
 pub struct AdcWords {
@@ -20,17 +17,15 @@ pub struct AdcWords {
     pub sixth: AdcWord,
 }
 
-// What becomes of a reply, stored or not, its CRC right or not.
-pub fn adc_word(stored: bool, right: bool, data: u16) -> AdcWord
-    ensures { λ r. ⌜ r ≡ adcWord stored right «data» ⌝ }
+// A reply that has not come.
+fn no_reply() -> AdcWord
+    ensures { λ r. ⌜ r ≡ noReply ⌝ }
 {
-    if stored {
-        if right {
-            return AdcWord::Data(data);
-        }
-        return AdcWord::Damaged;
+    AdcWord {
+        stored: false,
+        right: false,
+        data: 0,
     }
-    AdcWord::Lost
 }
 
 // One of two words, for a position.
@@ -41,14 +36,15 @@ fn select(first: bool, one: AdcWord, other: AdcWord) -> AdcWord
 }
 
 impl AdcWords {
-    pub fn lost() -> AdcWords
-        ensures { λ r. ⌜ r ≡ allLost ⌝ }
+    pub fn none() -> AdcWords
+        ensures { λ r. ⌜ r ≡ noneArrived ⌝ }
     {
+        let none = no_reply();
         AdcWords {
-            third: AdcWord::Lost,
-            fourth: AdcWord::Lost,
-            fifth: AdcWord::Lost,
-            sixth: AdcWord::Lost,
+            third: none,
+            fourth: none,
+            fifth: none,
+            sixth: none,
         }
     }
 
@@ -67,7 +63,8 @@ impl AdcWords {
             sixth: select(before == 5, word, sixth),
         }
     }
-    // Those of a send that got so many replies: a reply that has not come is lost, and what stands in its place is of an earlier send.
+
+    // Those of a send that got so many replies: what stands in the place of one that has not come is of an earlier send.
     pub fn arrived(self, replies: u8) -> AdcWords
         ensures { λ r. ⌜ r ≡ arrived self replies ⌝ }
     {
@@ -75,11 +72,12 @@ impl AdcWords {
         let fourth = self.fourth;
         let fifth = self.fifth;
         let sixth = self.sixth;
+        let none = no_reply();
         AdcWords {
-            third: select(2 < replies, third, AdcWord::Lost),
-            fourth: select(3 < replies, fourth, AdcWord::Lost),
-            fifth: select(4 < replies, fifth, AdcWord::Lost),
-            sixth: select(5 < replies, sixth, AdcWord::Lost),
+            third: select(2 < replies, third, none),
+            fourth: select(3 < replies, fourth, none),
+            fifth: select(4 < replies, fifth, none),
+            sixth: select(5 < replies, sixth, none),
         }
     }
 }

@@ -14,7 +14,7 @@ use Rattle.status.specs.Latching as st
 use Rattle.registers.specs.declared.Registers.{Registers}
 use Rattle.registers.specs.Map as reg
 use Rattle.adc_words.specs.declared.AdcWords.{AdcWords}
-use Rattle.adc_words.specs.Positions.{allLost}
+use Rattle.adc_words.specs.Positions.{noneArrived}
 use Rattle.sequencer.specs.declared.Sequencer.{Sequencer}
 use Rattle.sequencer.specs.Playing as seq
 use Rattle.readback.specs.declared.Readbacks.{Readbacks}
@@ -26,13 +26,13 @@ use Rattle.channel_core.specs.declared.Channel.{Channel}
 -- "all registers 0, channels disarmed, .. buffers 1 active, no readbacks"
 unfoldable pub opened : Channel
 opened =
-    record { status = st.opened; registers = reg.opened; sequencer = seq.opened; readbacks = rb.opened; adc = allLost; commands = cmd.opened }
+    record { status = st.opened; registers = reg.opened; sequencer = seq.opened; readbacks = rb.opened; adc = noneArrived; commands = cmd.opened }
 
 -- "Reset D0 returns that channel to its opening state; lent words and its Main bits stay (bench)."; so it drops "a waiting frame" (card 1) and "a tag not
 -- yet used" (card 6)
 unfoldable pub reset : Channel → Channel
 reset c =
-    record { status = st.reset (c .status); registers = reg.opened; sequencer = seq.opened; readbacks = rb.opened; adc = allLost; commands = cmd.opened }
+    record { status = st.reset (c .status); registers = reg.opened; sequencer = seq.opened; readbacks = rb.opened; adc = noneArrived; commands = cmd.opened }
 
 abbrev pub withStatus : Channel → Status → Channel
 withStatus c s = record { status = s; registers = c .registers; sequencer = c .sequencer; readbacks = c .readbacks; adc = c .adc; commands = c .commands }

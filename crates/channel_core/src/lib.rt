@@ -156,7 +156,7 @@ impl Channel {
             registers: Registers::opened(),
             sequencer: Sequencer::opened(),
             readbacks: Readbacks::opened(),
-            adc: AdcWords::lost(),
+            adc: AdcWords::none(),
             commands: CommandFrames::opened(),
         }
     }
@@ -171,7 +171,7 @@ impl Channel {
             registers: Registers::opened(),
             sequencer: Sequencer::opened(),
             readbacks: Readbacks::opened(),
-            adc: AdcWords::lost(),
+            adc: AdcWords::none(),
             commands: CommandFrames::opened(),
         }
     }

@@ -1,7 +1,7 @@
 -- Document 02, card 7: the readings of a channel's "last setpoint send since idle". They change nothing.
+use mathlib.Core.Bool.{cond}
 use Rattle.codes.specs.Voltage.{voltageOf}
 use Rattle.adc_words.specs.declared.AdcWord.{AdcWord}
-use Rattle.adc_words.specs.declared.AdcWord.the-variants as adc
 use Rattle.adc_words.specs.declared.AdcWords.{AdcWords}
 use Rattle.adc_words.specs.Positions.{arrived}
 use Rattle.channel_core.specs.declared.Channel.{Channel}
@@ -9,11 +9,10 @@ use Rattle.channel_core.specs.Results.{AdcReading, volts, lost, damaged}
 use Rattle.channel_core.specs.Answers.{Answer}
 use Rattle.channel_core.specs.Answers as ans
 
--- the reading of an ADC word: the voltage of its data (`VoltageExact`, codes/specs/Voltage: exactly code × 10 / 32,768), or what became of it
-abbrev pub measured : AdcWord → AdcReading
-measured adc.Lost = lost
-measured adc.Damaged = damaged
-measured (adc.Data word) = volts (voltageOf word)
+-- the reading of an ADC word: "lost when its reply wasn't stored, with a wrong CRC or not", else "damaged by a wrong CRC", or the voltage of its data
+-- (`VoltageExact`, codes/specs/Voltage: exactly code × 10 / 32,768)
+unfoldable pub measured : AdcWord → AdcReading
+measured w = cond (w .stored) (cond (w .right) (volts (voltageOf (w .«data»))) damaged) lost
 
 -- "A send's third to sixth replies are its ADC words."
 abbrev pub measurement : AdcWords → Answer

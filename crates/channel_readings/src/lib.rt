@@ -23,11 +23,13 @@ pub struct Readings {
 fn measured(word: AdcWord) -> Reading
     ensures { λ r. ⌜ adcReadingOf r ≡ measured word ⌝ }
 {
-    match word {
-        AdcWord::Lost => Reading::Lost,
-        AdcWord::Damaged => Reading::Damaged,
-        AdcWord::Data(data) => Reading::Volts(codes::volts(data)),
+    if word.stored {
+        if word.right {
+            return Reading::Volts(codes::volts(word.data));
+        }
+        return Reading::Damaged;
     }
+    Reading::Lost
 }
 
 // Those of the last send; the channel stays as it is.

@@ -33,8 +33,8 @@ receiptAnswer disposition.Unsolicited = ans.unsolicited
 receiptAnswer disposition.Lost = ans.lost
 receiptAnswer disposition.Kept = ans.kept
 
--- a reply that was due, kept or lost, "counts among the six", and its CRC is checked; `become` is what becomes of it, kept where its position, after those
--- that came before it, is that of an ADC word
+-- a reply that was due, kept or lost, "counts among the six", and its CRC is checked; `become` is what is kept of it where its
+-- position, after those that came before it, is that of an ADC word
 abbrev pub replyCounted : Channel → Bool → AdcWord → Channel
 replyCounted c right become =
     withAdc (withSequencer (withStatus c (crcStatus (c .status) right)) (answered (c .sequencer))) (withReply (c .adc) (c .sequencer .last .replies) become)

@@ -7,6 +7,7 @@ use refusal::Refusal;
 use status::Status;
 ghost use mathlib.Core.Path.{_≡_};
 ghost use mathlib.Core.Bool.{not};
+ghost use Rattle.adc_words.specs.Positions.{adcWord};
 ghost use Rattle.readback.specs.Storing.{storedWord};
 ghost use Rattle.channel_replies.specs.Answers.{receiptOf};
 ghost use Rattle.channel_replies.specs.Replying.{dispositionNow, crcStatus, replyCounted, receivedChannel, receiptAnswer, receivedWords, commandReply, replyAnswer, replyOf, replyWords};
@@ -46,6 +47,17 @@ fn disposition(c: Channel, m: u32) -> Disposition
     readback::dispose(sequencer::stages::is_idle(stage), last, readbacks.stored, m)
 }
 
+// What is kept of a reply that may be an ADC word.
+fn arrival(stored: bool, right: bool, data: u16) -> AdcWord
+    ensures { λ r. ⌜ r ≡ adcWord stored right «data» ⌝ }
+{
+    AdcWord {
+        stored,
+        right,
+        data,
+    }
+}
+
 // A reply that was due, kept or lost, is one of the six; its CRC is checked, and it may be an ADC word.
 fn counted(c: Channel, right: bool, word: AdcWord) -> Channel
     ensures { λ r. ⌜ r ≡ replyCounted c right word ⌝ }
@@ -80,7 +92,7 @@ fn receive(
             receipt: Receipt::Unsolicited,
         },
         Disposition::Lost => Received {
-            channel: counted(c, right, adc_words::adc_word(false, right, data)),
+            channel: counted(c, right, arrival(false, right, data)),
             receipt: Receipt::Lost,
         },
         Disposition::Kept => {
@@ -89,7 +101,7 @@ fn receive(
             let readbacks = c.readbacks;
             let last = sequencer.last;
             let word = readback::stored_word(last, user, !right, id, data);
-            let mut next = counted(c, right, adc_words::adc_word(true, right, data));
+            let mut next = counted(c, right, arrival(true, right, data));
             next.readbacks = readbacks.keep(words, registers.readback_second_active(), m, word);
             Received {
                 channel: next,

@@ -176,11 +176,6 @@ data-read f = go (framed f)
     go true = omega arith
     go false = tt
 
-word-range : (stored right : Bool) (word : ℕ) → word < 65536 → AdcInRange (adcWord stored right word)
-word-range true true word h = h
-word-range true false word h = tt
-word-range false right word h = tt
-
 replied-range : (w : AdcWords) (before : ℕ) (a : AdcWord) → AdcWordsInRange w → AdcInRange a → AdcWordsInRange (withReply w before a)
 unfolding withReply
 replied-range w before a h i =
@@ -215,7 +210,7 @@ module _ (m : ℕ) where
         status = record { enable = refl; interrupt = none-range; polling = none-range };
         registers = record { clock = omega arith; active = refl; id = omega arith; events = refl; switches = refl; delays = refl };
         readbacks = record { stored = omega arith; retired = omega arith };
-        adc = record { third = tt; fourth = tt; fifth = tt; sixth = tt };
+        adc = record { third = omega arith; fourth = omega arith; fifth = omega arith; sixth = omega arith };
         commands = record { count = omega arith; replies = refl };
       }
 
@@ -312,7 +307,7 @@ module _ (m : ℕ) where
         status = crc-range (c .status) right (h .status);
         registers = h .registers;
         readbacks = h .readbacks;
-        adc = replied-range (c .adc) (c .sequencer .last .replies) _ (h .adc) (word-range false right word fits);
+        adc = replied-range (c .adc) (c .sequencer .last .replies) (adcWord false right word) (h .adc) fits;
         commands = h .commands;
       }
   disposition-range disposition.Kept c right word fits h =
@@ -320,7 +315,7 @@ module _ (m : ℕ) where
         status = crc-range (c .status) right (h .status);
         registers = h .registers;
         readbacks = kept-range (c .readbacks) (h .readbacks);
-        adc = replied-range (c .adc) (c .sequencer .last .replies) _ (h .adc) (word-range true right word fits);
+        adc = replied-range (c .adc) (c .sequencer .last .replies) (adcWord true right word) (h .adc) fits;
         commands = h .commands;
       }
 

@@ -14,9 +14,8 @@ use Rattle.codes.specs.Voltage.{voltageOf}
 use Rattle.codes.proofs.Exact.{voltage-exact}
 use Rattle.registers.specs.Map.{triggersOf, groupEndEvent}
 use Rattle.adc_words.specs.declared.AdcWord.{AdcWord}
-use Rattle.adc_words.specs.declared.AdcWord.the-variants as adc
 use Rattle.adc_words.specs.declared.AdcWords.{AdcWords}
-use Rattle.adc_words.specs.Positions.{allLost, withReply, arrived, wordsOf}
+use Rattle.adc_words.specs.Positions.{adcWord, noReply, noneArrived, withReply, arrived, wordsOf}
 use Rattle.adc_words.proofs.Laws.{one-more, arrived-more, arrived-none}
 use Rattle.readback.specs.declared.Disposition.{Disposition}
 use Rattle.readback.specs.declared.Disposition.the-variants as disposition
@@ -24,6 +23,7 @@ use Rattle.command_frames.specs.Commanding.{takes}
 use Rattle.channel_core.specs.declared.Channel.{Channel}
 use Rattle.channel_core.specs.Answers.{Answer, isReceived}
 use Rattle.channel_core.specs.Answers as ans
+use Rattle.channel_core.specs.Results.{volts, lost, damaged}
 use Rattle.channel_core.specs.State.{reset}
 use Rattle.channel_core.specs.State as state
 use Rattle.channel_core.specs.Behaviour.{groupEnded, endedIf, userChanged, playedOf, tickOf, tickAnswer}
@@ -70,7 +70,7 @@ module _ (w : Window) (id : ℕ) (l : List AdcWord) (a : AdcWord) where
 
   -- `held` are the ADC words before it; a reset clears them, one reply more is put into its place
   words-after : (held : AdcWords) (again idle sends more : Bool) → (again ≡ true → idle ≡ true) → w .replies ≡ length l → arrived held (w .replies) ≡ wordsOf l
-      → arrived (cond again allLost (cond more (withReply held (w .replies) a) held)) (window idle sends more .replies) ≡ wordsOf (replies idle sends more)
+      → arrived (cond again noneArrived (cond more (withReply held (w .replies) a) held)) (window idle sends more .replies) ≡ wordsOf (replies idle sends more)
   words-after held again true sends more r e h = arrived-none _
   words-after held true false sends more r e h = clash (r refl)
   words-after held false false true more r e h = arrived-none _
@@ -87,12 +87,12 @@ module _ (w : Window) (id : ℕ) (l : List AdcWord) (a : AdcWord) where
 
 -- ---- What each call makes of the ADC words
 
--- a channel with them, after a call with this answer, a reset or not; `become` is what becomes of a reply that is stored
+-- a channel with them, after a call with this answer, a reset or not; `become` is what is kept of a reply that is stored
 abbrev AdcStep : Channel → Answer → (again : Bool) → (become : AdcWord) → Channel → Type 0
 AdcStep c a again become d =
     d .adc
-    ≡ cond again allLost
-    (cond (isReceived a && not (takes (c .commands))) (withReply (c .adc) (c .sequencer .last .replies) (cond (isKept a) become adc.Lost)) (c .adc))
+    ≡ cond again noneArrived
+    (cond (isReceived a && not (takes (c .commands))) (withReply (c .adc) (c .sequencer .last .replies) (adcWord (isKept a) (become .right) (become .«data»))) (c .adc))
 
 plain-adc : (c : Channel) (a : Answer) (become : AdcWord) (d : Channel) → isReceived a ≡ false → d .adc ≡ c .adc → AdcStep c a false become d
 plain-adc c a become d plain e = e ∙ sym (rw plain)
@@ -102,15 +102,15 @@ unfolding endedIf groupEnded
 ended-adc true c = refl
 ended-adc false c = refl
 
-reset-adc : (c : Channel) (on : Bool) → AdcStep c ans.done on adc.Lost (cond on (reset c) c)
+reset-adc : (c : Channel) (on : Bool) → AdcStep c ans.done on noReply (cond on (reset c) c)
 unfolding reset
 reset-adc c true = refl
 reset-adc c false = refl
 
-register-adc : (c : Channel) (offset value : ℕ) → AdcStep c ans.done (eqb offset 0x06 && bitAt value 0) adc.Lost (registerEffect c offset value)
+register-adc : (c : Channel) (offset value : ℕ) → AdcStep c ans.done (eqb offset 0x06 && bitAt value 0) noReply (registerEffect c offset value)
 unfolding registerEffect
 register-adc c offset value =
-    by-offset (λ (x : ℕ). AdcStep c ans.done (eqb x 0x06 && bitAt value 0) adc.Lost (registerEffect c x value)) offset
+    by-offset (λ (x : ℕ). AdcStep c ans.done (eqb x 0x06 && bitAt value 0) noReply (registerEffect c x value)) offset
     refl (reset-adc c (bitAt value 0)) (leaves-command c value .adc ∙ ended-adc (bitAt value 2) c)
     (λ d e f. rw (d, e, f) (either (λ (x : Channel). x .adc ≡ c .adc) (leb 0xe0 offset) refl refl))
 
@@ -121,13 +121,13 @@ reply-adc c m f = go (read f)
     disposed : (d : Disposition) (right : Bool) (word : ℕ)
         → receivedChannel d c m right word .adc
         ≡ cond (isReceived (receiptAnswer d) && true)
-        (withReply (c .adc) (c .sequencer .last .replies) (cond (isKept (receiptAnswer d)) (cond right (adc.Data word) adc.Damaged) adc.Lost)) (c .adc)
+        (withReply (c .adc) (c .sequencer .last .replies) (adcWord (isKept (receiptAnswer d)) right word)) (c .adc)
     disposed disposition.Unsolicited right word = refl
     disposed disposition.Lost right word = refl
     disposed disposition.Kept right word = refl
 
     fields : (id word aux crc : ℕ) (b : Bool) → takes (c .commands) ≡ b
-        → AdcStep c (cond b ans.kept (receiptAnswer (dispositionNow c m))) false (cond (crcRight id word aux crc) (adc.Data word) adc.Damaged)
+        → AdcStep c (cond b ans.kept (receiptAnswer (dispositionNow c m))) false (adcWord true (crcRight id word aux crc) word)
         (cond b (commandReply c (crcRight id word aux crc) id word) (receivedChannel (dispositionNow c m) c m (crcRight id word aux crc) word))
     fields id word aux crc true e = rw e
     fields id word aux crc false e = rw e (disposed (dispositionNow c m) (crcRight id word aux crc) word)
@@ -144,16 +144,16 @@ effect-adc o (call.writeSetpoint lent user buffer index word) = refl
 effect-adc o call.arm = refl
 effect-adc o call.disarm = refl
 effect-adc o (call.reply lent f) = reply-adc (o .channel) (o .m) f
-effect-adc o (call.query which one two) = plain-adc (o .channel) (queryAnswer o which) adc.Lost (o .channel) (query-plain o which .2) refl
+effect-adc o (call.query which one two) = plain-adc (o .channel) (queryAnswer o which) noReply (o .channel) (query-plain o which .2) refl
 effect-adc o (call.tick lent) =
-    plain-adc (o .channel) (tickAnswer (o .channel) (o .setpoints) (o .n) (o .user)) adc.Lost (tickOf (o .channel) (o .setpoints) (o .n) (o .user))
+    plain-adc (o .channel) (tickAnswer (o .channel) (o .setpoints) (o .n) (o .user)) noReply (tickOf (o .channel) (o .setpoints) (o .n) (o .user))
     (line-unreceived (o .channel .registers .id) (o .channel .commands) (playedOf (o .channel) (o .setpoints) (o .n) (o .user) .transmission)) refl
 effect-adc o (call.event lent code) =
     leaves-event (o .channel) (o .user) code .adc ∙ ended-adc (triggersOf (o .channel .registers) groupEndEvent code) (o .channel)
 effect-adc o (call.changeUser user) = either (λ (x : OneChannel). x .channel .adc ≡ o .channel .adc) (eqb user (o .user)) refl refl
 effect-adc o (call.writeMain lent offset value) = refl
 effect-adc o (call.readMain offset) =
-    plain-adc (o .channel) (mainAnswer (o .channel) offset) adc.Lost (mainRead (o .channel) offset) (main-plain (o .channel) offset .1)
+    plain-adc (o .channel) (mainAnswer (o .channel) offset) noReply (mainRead (o .channel) offset) (main-plain (o .channel) offset .1)
     (leaves-main (o .channel) offset .adc)
 
 adc-step : (o : OneChannel) (k : ChannelCall) → AdcStep (o .channel) (response o k) (resets (entry o k)) (asks o k .adc) (transition o k .channel)
@@ -217,12 +217,16 @@ pub readings-told : ReadingsTold
 unfolding response refusalOf answer readingsAnswer
 readings-told n m setpoints readbacks ks one two = rw (holds n m setpoints readbacks ks .words)
 
-measured-says : (a : AdcWord) → AdcInRange a → Says a (measured a)
-measured-says adc.Lost i = refl
-measured-says adc.Damaged i = refl
-measured-says (adc.Data word) i = (voltageOf word, refl, voltage-exact word i)
+measured-says : (a : AdcWord) → AdcInRange a → Says (a .stored) (a .right) (a .«data») (measured a)
+unfolding measured
+measured-says a i = go (a .stored) (a .right)
+  where
+    go : (stored right : Bool) → Says stored right (a .«data») (cond stored (cond right (volts (voltageOf (a .«data»))) damaged) lost)
+    go true true = (voltageOf (a .«data»), refl, voltage-exact (a .«data») i)
+    go true false = refl
+    go false right = refl
 
-in-place : (l : List AdcWord) → AdcWordsInRange (wordsOf l) → (k : ℕ) → 2 ≤ k → k ≤ 5 → AdcInRange (getD l k adc.Lost)
+in-place : (l : List AdcWord) → AdcWordsInRange (wordsOf l) → (k : ℕ) → 2 ≤ k → k ≤ 5 → AdcInRange (getD l k noReply)
 in-place l h zero low high = absurd (omega arith)
 in-place l h (suc zero) low high = absurd (omega arith)
 in-place l h (suc (suc zero)) low high = h .third
@@ -245,17 +249,18 @@ arrived-range w k h =
       sixth = at (ltb 5 k) (w .sixth) (h .sixth);
     }
   where
-    at : (come : Bool) (a : AdcWord) → AdcInRange a → AdcInRange (cond come a adc.Lost)
+    at : (come : Bool) (a : AdcWord) → AdcInRange a → AdcInRange (cond come a noReply)
     at true a i = i
-    at false a i = tt
+    at false a i = omega arith
 
 pub readings-say : ReadingsSay
 readings-say n m setpoints readbacks ks k low high =
     let l = repliesOver n m setpoints readbacks ks in
-    measured-says (getD l k adc.Lost)
+    measured-says (getD l k noReply)
     (in-place l (subst AdcWordsInRange (holds n m setpoints readbacks ks .words) (arrived-range _ _ (in-range n m setpoints readbacks ks))) k low high)
 
 pub none-lost : NoneLost
+unfolding measured
 none-lost n m setpoints readbacks ks one two e =
     readings-told n m setpoints readbacks ks one two
     ∙ ap readingsBy (holds n m setpoints readbacks ks .none (window-held n m setpoints readbacks ks .sent ∙ e))

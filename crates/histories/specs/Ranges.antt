@@ -11,7 +11,6 @@ use Rattle.status.specs.Bits.{bitAt}
 use Rattle.status.specs.declared.Status.{Status}
 use Rattle.registers.specs.declared.Registers.{Registers}
 use Rattle.adc_words.specs.declared.AdcWord.{AdcWord}
-use Rattle.adc_words.specs.declared.AdcWord.the-variants as adc
 use Rattle.adc_words.specs.declared.AdcWords.{AdcWords}
 use Rattle.sequencer.specs.declared.Stage.{Stage}
 use Rattle.sequencer.specs.declared.Stage.the-variants as stage
@@ -81,9 +80,7 @@ pub record ReadbacksInRange (m : ℕ) (r : Readbacks) : Type 0 where
 
 -- the data of an ADC word has 16 bits
 abbrev pub AdcInRange : AdcWord → Type 0
-AdcInRange adc.Lost = Unit {0}
-AdcInRange adc.Damaged = Unit {0}
-AdcInRange (adc.Data word) = word < 65536
+AdcInRange a = a .«data» < 65536
 
 pub record AdcWordsInRange (w : AdcWords) : Type 0 where
   pub third : AdcInRange (w .third)

@@ -27,7 +27,7 @@ returns c =
       c .before .measured3 .ensures,
       c .before .before .measured2 .ensures,
       c .before .before .before .measured .ensures,
-      c .before .before .before .before .arrived .ensures,
+      c .before .before .before .before .before .before .before .before .arrived .ensures,
     )
 
 pub last-readings-spec : {M : Type 1} → statement M

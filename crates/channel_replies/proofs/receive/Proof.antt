@@ -12,8 +12,8 @@ enum-told c = search needs
 enum-told-2 : tie.Need-enum-told-2
 enum-told-2 c = search needs
 
-adc-word-requires : tie.Need-adc-word-requires
-adc-word-requires c κs = search needs
+arrival-requires : tie.Need-arrival-requires
+arrival-requires c κs = search needs
 
 counted-requires : tie.Need-counted-requires
 counted-requires c κs = search needs
@@ -24,8 +24,8 @@ enum-told-3 c = search needs
 stored-word-requires : tie.Need-stored-word-requires
 stored-word-requires c κs = search needs
 
-adc-word-requires-2 : tie.Need-adc-word-requires-2
-adc-word-requires-2 c κs = search needs
+arrival-requires-2 : tie.Need-arrival-requires-2
+arrival-requires-2 c κs = search needs
 
 counted-requires-2 : tie.Need-counted-requires-2
 counted-requires-2 c κs = search needs
@@ -44,7 +44,7 @@ returns c =
 returns-2 : tie.Need-returns-2
 returns-2 c =
     let lost = c .before .before .enum-told2 .given .1 in
-    rw (← c .before .before .before .before .disposition .ensures) (simp (lost, c .counted .ensures, c .before .adc-word .ensures), simp (lost), simp (lost))
+    rw (← c .before .before .before .before .disposition .ensures) (simp (lost, c .counted .ensures, c .before .arrival .ensures), simp (lost), simp (lost))
 
 same-length : tie.Need-same-length
 same-length c = search needs
@@ -56,7 +56,7 @@ returns-3 c =
     let e = s .before .before .before .before .before .before .before in
     let kept = e .enum-told3 .given .1 in
     rw (← e .before .before .disposition .ensures) (
-      simp (kept, s .counted2 .ensures, s .before .adc-word2 .ensures, k .keep .ensures .0),
+      simp (kept, s .counted2 .ensures, s .before .arrival2 .ensures, k .keep .ensures .0),
       simp (kept),
       simp (kept, k .keep .ensures .1, k .before .readback-second-active .ensures, s .before .before .stored-word .ensures),
     )
@@ -68,11 +68,11 @@ receive-spec =
     disposition-requires
     enum-told
     enum-told-2
-    adc-word-requires
+    arrival-requires
     counted-requires
     enum-told-3
     stored-word-requires
-    adc-word-requires-2
+    arrival-requires-2
     counted-requires-2
     readback-second-active-requires
     keep-requires

@@ -16,8 +16,8 @@ opened-requires-3 c κs = search needs
 opened-requires-4 : tie.Need-opened-requires-4
 opened-requires-4 c κs = search needs
 
-lost-requires : tie.Need-lost-requires
-lost-requires c κs = search needs
+none-requires : tie.Need-none-requires
+none-requires c κs = search needs
 
 opened-requires-5 : tie.Need-opened-requires-5
 opened-requires-5 c κs = search needs
@@ -27,7 +27,7 @@ unfolding opened
 returns c =
     simp (
       c .opened5 .ensures,
-      c .before .lost .ensures,
+      c .before .none .ensures,
       c .before .before .opened4 .ensures,
       c .before .before .before .opened3 .ensures,
       c .before .before .before .before .opened2 .ensures,
@@ -37,4 +37,4 @@ returns c =
 pub opened-spec : {M : Type 1} → statement M
 opened-spec =
     tie.close
-    (tie.spec opened-requires opened-requires-2 opened-requires-3 opened-requires-4 lost-requires opened-requires-5 returns)
+    (tie.spec opened-requires opened-requires-2 opened-requires-3 opened-requires-4 none-requires opened-requires-5 returns)

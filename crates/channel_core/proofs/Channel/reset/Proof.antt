@@ -16,8 +16,8 @@ opened-requires-2 c κs = search needs
 opened-requires-3 : tie.Need-opened-requires-3
 opened-requires-3 c κs = search needs
 
-lost-requires : tie.Need-lost-requires
-lost-requires c κs = search needs
+none-requires : tie.Need-none-requires
+none-requires c κs = search needs
 
 opened-requires-4 : tie.Need-opened-requires-4
 opened-requires-4 c κs = search needs
@@ -27,7 +27,7 @@ unfolding reset
 returns c =
     simp (
       c .opened4 .ensures,
-      c .before .lost .ensures,
+      c .before .none .ensures,
       c .before .before .opened3 .ensures,
       c .before .before .before .opened2 .ensures,
       c .before .before .before .before .opened .ensures,
@@ -37,4 +37,4 @@ returns c =
 pub reset-spec : {M : Type 1} → statement M
 reset-spec =
     tie.close
-    (tie.spec reset-requires opened-requires opened-requires-2 opened-requires-3 lost-requires opened-requires-4 returns)
+    (tie.spec reset-requires opened-requires opened-requires-2 opened-requires-3 none-requires opened-requires-4 returns)
