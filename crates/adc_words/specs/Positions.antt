@@ -30,7 +30,7 @@ withReply w before a =
       sixth = cond (eqb before 5) a (w .sixth);
     }
 
--- the ADC words of a send that got so many replies: what stands in the place of one that has not come is of an earlier send
+-- the ADC words of a send that got so many replies: what stands in the place of one that has not come is of an earlier send, if anything
 unfoldable pub arrived : AdcWords → (replies : ℕ) → AdcWords
 arrived w replies =
     record {

@@ -64,7 +64,7 @@ impl AdcWords {
         }
     }
 
-    // Those of a send that got so many replies: what stands in the place of one that has not come is of an earlier send.
+    // Those of a send that got so many replies: what stands in the place of one that has not come is of an earlier send, if anything.
     pub fn arrived(self, replies: u8) -> AdcWords
         ensures { λ r. ⌜ r ≡ arrived self replies ⌝ }
     {

@@ -1,5 +1,5 @@
 -- Document 01, 'A channel's life': what a reply does to a channel, over the channel's own 2 × M readback words, and what it is answered.
--- Document 02, card 1: replies to a command frame. Card 7: what becomes of a reply that is an ADC word.
+-- Document 02, card 1: replies to a command frame. Card 7: replies that are ADC words.
 use Prim.Native.Nat.{ℕ}
 use mathlib.Core.Bool.{Bool, true, false, cond, not}
 use mathlib.Core.List.{List}
@@ -33,11 +33,11 @@ receiptAnswer disposition.Unsolicited = ans.unsolicited
 receiptAnswer disposition.Lost = ans.lost
 receiptAnswer disposition.Kept = ans.kept
 
--- a reply that was due, kept or lost, "counts among the six", and its CRC is checked; `become` is what is kept of it where its
--- position, after those that came before it, is that of an ADC word
+-- a reply that was due, kept or lost, "counts among the six", and its CRC is checked; `adc` is what is kept of it where its position,
+-- after those that came before it, is that of an ADC word
 abbrev pub replyCounted : Channel → Bool → AdcWord → Channel
-replyCounted c right become =
-    withAdc (withSequencer (withStatus c (crcStatus (c .status) right)) (answered (c .sequencer))) (withReply (c .adc) (c .sequencer .last .replies) become)
+replyCounted c right adc =
+    withAdc (withSequencer (withStatus c (crcStatus (c .status) right)) (answered (c .sequencer))) (withReply (c .adc) (c .sequencer .last .replies) adc)
 
 -- the channel after it; an unasked one changes nothing. Card 7: "A reading is lost when its reply wasn't stored, with a wrong CRC or not."
 abbrev pub receivedChannel : Disposition → Channel → ℕ → Bool → ℕ → Channel

@@ -19,7 +19,7 @@ unfoldable pub voltageOf : ℕ → Float
 unfolding mul div ofInt
 voltageOf word = div binary64 (mul binary64 (ofInt binary64 (codeOf word)) ten) fullScale
 
--- ---- What it is worth
+-- ---- Its value
 
 -- x is exactly z / d, for a d above 0: finite, with z's sign, and |z| / d in size
 abbrev pub IsFraction : Float → (z : ℤ) (d : ℕ) → Type 0

@@ -37,6 +37,7 @@ reading-rows =
       full = refl;
       full-wrong = refl;
       full-before = refl;
+      full-next = refl;
       full-seventh = refl;
       bad-framing = refl;
       refused = refl;

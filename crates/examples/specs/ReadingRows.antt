@@ -86,6 +86,8 @@ pub record ReadingRows : Type 0 where
   pub full : after 5 six [] ≡ readings minusTenVolts noVolts lost lost
   pub full-wrong : after 5 (nought ∷ nought ∷ lowest ∷ wrongNought ∷ wrongLowest ∷ wrongNought ∷ []) [] ≡ readings minusTenVolts damaged lost lost
   pub full-before : after 2 (nought ∷ nought ∷ wrongLowest ∷ nought ∷ highest ∷ []) [] ≡ allLost
+  -- what an earlier send left in the place of a lost reply is not its reading
+  pub full-next : after 7 six (replicate 10 (tick 128) ++ replies 7 six) ≡ allLost
   -- lost replies count among the six: a seventh is unasked
   pub full-seventh : after 4 (six ++ (lowest ∷ [])) [] ≡ readings minusTenVolts lost lost lost
   -- a bad frame, and a reply that is refused 1, take no position

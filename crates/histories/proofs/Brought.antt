@@ -1,6 +1,5 @@
 -- What a call brings: a reply its word, any other call none. Assumes nothing.
 use Prim.Native.Nat.{ℕ}
-use mathlib.Core.Path.{_≡_, refl}
 use mathlib.Core.List.{List, []}
 use Rattle.frame.specs.Frames.{read}
 use Rattle.channel.specs.OneChannel.{ChannelCall, OneChannel}

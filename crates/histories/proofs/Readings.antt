@@ -1,4 +1,4 @@
--- After any list of calls the readings are those of the third to sixth replies to the last setpoint send since idle, each says what became of its reply, and
+-- After any list of calls the readings are those of the third to sixth replies to the last setpoint send since idle, each says what its reply was, and
 -- with no such send all are lost. Assumes nothing.
 use Prim.Native.Nat.{ℕ, zero, suc, _+_, _≤_}
 use mathlib.Core.Path.{_≡_, refl, sym, _∙_, ap, ap₂, subst}
@@ -34,7 +34,7 @@ use Rattle.channel.specs.Calls.{armedOf, disarmedOf}
 use Rattle.channel.specs.OneChannel.{ChannelCall, OneChannel, oneChannel, refusalOf, effect, answer, transition, response, transitions, queryAnswer, mainAnswer, mainRead}
 use Rattle.channel.specs.OneChannel as call
 use Rattle.channel.proofs.Cases.{clash, either}
-use Rattle.histories.specs.History.{isKept, adcIn, Entry, entry, Told, told, toldOf, asks, endsGroup, resets, sentId, sendsSetpoint, receives}
+use Rattle.histories.specs.History.{isKept, adcIn, noAdc, Entry, entry, Told, told, asks, endsGroup, resets, sentId, sendsSetpoint, receives}
 use Rattle.histories.specs.Windows.{Window, closed, idles}
 use Rattle.histories.specs.Ranges.{AdcInRange, AdcWordsInRange, ChannelInRange}
 use Rattle.histories.specs.Readings.{becomes, repliesAfter, repliesSince, repliesOver, readingsBy, Says, ReadingsTold, ReadingsSay, NoneLost}
@@ -87,30 +87,30 @@ module _ (w : Window) (id : ℕ) (l : List AdcWord) (a : AdcWord) where
 
 -- ---- What each call makes of the ADC words
 
--- a channel with them, after a call with this answer, a reset or not; `become` is what is kept of a reply that is stored
-abbrev AdcStep : Channel → Answer → (again : Bool) → (become : AdcWord) → Channel → Type 0
-AdcStep c a again become d =
+-- a channel with them, after a call with this answer, a reset or not; `reply` is what it brings, stored or not
+abbrev AdcStep : Channel → Answer → (again : Bool) → (reply : Bool → AdcWord) → Channel → Type 0
+AdcStep c a again reply d =
     d .adc
     ≡ cond again noneArrived
-    (cond (isReceived a && not (takes (c .commands))) (withReply (c .adc) (c .sequencer .last .replies) (adcWord (isKept a) (become .right) (become .«data»))) (c .adc))
+    (cond (isReceived a && not (takes (c .commands))) (withReply (c .adc) (c .sequencer .last .replies) (reply (isKept a))) (c .adc))
 
-plain-adc : (c : Channel) (a : Answer) (become : AdcWord) (d : Channel) → isReceived a ≡ false → d .adc ≡ c .adc → AdcStep c a false become d
-plain-adc c a become d plain e = e ∙ sym (rw plain)
+plain-adc : (c : Channel) (a : Answer) (reply : Bool → AdcWord) (d : Channel) → isReceived a ≡ false → d .adc ≡ c .adc → AdcStep c a false reply d
+plain-adc c a reply d plain e = e ∙ sym (rw plain)
 
 ended-adc : (on : Bool) (c : Channel) → endedIf on c .adc ≡ c .adc
 unfolding endedIf groupEnded
 ended-adc true c = refl
 ended-adc false c = refl
 
-reset-adc : (c : Channel) (on : Bool) → AdcStep c ans.done on noReply (cond on (reset c) c)
+reset-adc : (c : Channel) (on : Bool) → AdcStep c ans.done on noAdc (cond on (reset c) c)
 unfolding reset
 reset-adc c true = refl
 reset-adc c false = refl
 
-register-adc : (c : Channel) (offset value : ℕ) → AdcStep c ans.done (eqb offset 0x06 && bitAt value 0) noReply (registerEffect c offset value)
+register-adc : (c : Channel) (offset value : ℕ) → AdcStep c ans.done (eqb offset 0x06 && bitAt value 0) noAdc (registerEffect c offset value)
 unfolding registerEffect
 register-adc c offset value =
-    by-offset (λ (x : ℕ). AdcStep c ans.done (eqb x 0x06 && bitAt value 0) noReply (registerEffect c x value)) offset
+    by-offset (λ (x : ℕ). AdcStep c ans.done (eqb x 0x06 && bitAt value 0) noAdc (registerEffect c x value)) offset
     refl (reset-adc c (bitAt value 0)) (leaves-command c value .adc ∙ ended-adc (bitAt value 2) c)
     (λ d e f. rw (d, e, f) (either (λ (x : Channel). x .adc ≡ c .adc) (leb 0xe0 offset) refl refl))
 
@@ -127,7 +127,7 @@ reply-adc c m f = go (read f)
     disposed disposition.Kept right word = refl
 
     fields : (id word aux crc : ℕ) (b : Bool) → takes (c .commands) ≡ b
-        → AdcStep c (cond b ans.kept (receiptAnswer (dispositionNow c m))) false (adcWord true (crcRight id word aux crc) word)
+        → AdcStep c (cond b ans.kept (receiptAnswer (dispositionNow c m))) false (λ (stored : Bool). adcWord stored (crcRight id word aux crc) word)
         (cond b (commandReply c (crcRight id word aux crc) id word) (receivedChannel (dispositionNow c m) c m (crcRight id word aux crc) word))
     fields id word aux crc true e = rw e
     fields id word aux crc false e = rw e (disposed (dispositionNow c m) (crcRight id word aux crc) word)
@@ -144,16 +144,16 @@ effect-adc o (call.writeSetpoint lent user buffer index word) = refl
 effect-adc o call.arm = refl
 effect-adc o call.disarm = refl
 effect-adc o (call.reply lent f) = reply-adc (o .channel) (o .m) f
-effect-adc o (call.query which one two) = plain-adc (o .channel) (queryAnswer o which) noReply (o .channel) (query-plain o which .2) refl
+effect-adc o (call.query which one two) = plain-adc (o .channel) (queryAnswer o which) noAdc (o .channel) (query-plain o which .2) refl
 effect-adc o (call.tick lent) =
-    plain-adc (o .channel) (tickAnswer (o .channel) (o .setpoints) (o .n) (o .user)) noReply (tickOf (o .channel) (o .setpoints) (o .n) (o .user))
+    plain-adc (o .channel) (tickAnswer (o .channel) (o .setpoints) (o .n) (o .user)) noAdc (tickOf (o .channel) (o .setpoints) (o .n) (o .user))
     (line-unreceived (o .channel .registers .id) (o .channel .commands) (playedOf (o .channel) (o .setpoints) (o .n) (o .user) .transmission)) refl
 effect-adc o (call.event lent code) =
     leaves-event (o .channel) (o .user) code .adc ∙ ended-adc (triggersOf (o .channel .registers) groupEndEvent code) (o .channel)
 effect-adc o (call.changeUser user) = either (λ (x : OneChannel). x .channel .adc ≡ o .channel .adc) (eqb user (o .user)) refl refl
 effect-adc o (call.writeMain lent offset value) = refl
 effect-adc o (call.readMain offset) =
-    plain-adc (o .channel) (mainAnswer (o .channel) offset) noReply (mainRead (o .channel) offset) (main-plain (o .channel) offset .1)
+    plain-adc (o .channel) (mainAnswer (o .channel) offset) noAdc (mainRead (o .channel) offset) (main-plain (o .channel) offset .1)
     (leaves-main (o .channel) offset .adc)
 
 adc-step : (o : OneChannel) (k : ChannelCall) → AdcStep (o .channel) (response o k) (resets (entry o k)) (asks o k .adc) (transition o k .channel)

@@ -1,8 +1,8 @@
 -- Document 01, 'A channel's life', over what calls ANSWERED. A history: what a channel by itself was called with, in which state, and what it
 -- answered. Laws over histories are stated with these.
 -- Document 02, card 1: which of the frames are command frames, and which replies go to E4–FA, told by calls and answers. Card 2: the Frame ID that a
--- frame carries, read from the frame, and which register a call reads. Card 6: what a call makes of tags (specs/TagChanges). Card 7: what is kept of
--- a stored reply as an ADC word, by its own frame. Of the state before a call only the code of the Group End event (which `TagsTold`, specs/Tags, has told by
+-- frame carries, read from the frame, and which register a call reads. Card 6: what a call makes of tags (specs/TagChanges). Card 7: a reply as an
+-- ADC word, by its own frame. Of the state before a call only the code of the Group End event (which `TagsTold`, specs/Tags, has told by
 -- writes), the current user, and what a stored word says of the last send are looked at.
 use Prim.Native.Nat.{ℕ, _+_}
 use mathlib.Core.Bool.{Bool, true, false, cond, not, _&&_, _||_}
@@ -44,10 +44,13 @@ abbrev pub replyWord : OneChannel → Reading → List ℕ
 replyWord o (frame.refused k) = []
 replyWord o (frame.fields id word aux crc) = storedWord (o .channel .sequencer .last) (o .user) (not (crcRight id word aux crc)) id word ∷ []
 
--- what is kept of a reply that is stored, as an ADC word: whether the CRC of its own frame is right, and its data
-abbrev pub adcIn : Reading → AdcWord
-adcIn (frame.refused k) = noReply
-adcIn (frame.fields id word aux crc) = adcWord true (crcRight id word aux crc) word
+-- a reply as an ADC word, stored or not: whether the CRC of its own frame is right, and its data
+abbrev pub adcIn : Reading → (stored : Bool) → AdcWord
+adcIn (frame.refused k) stored = noReply
+adcIn (frame.fields id word aux crc) stored = adcWord stored (crcRight id word aux crc) word
+
+abbrev pub noAdc : (stored : Bool) → AdcWord
+noAdc stored = noReply
 
 -- a reply that was answered kept
 abbrev pub isKept : Answer → Bool
@@ -91,8 +94,8 @@ pub record Asks : Type 0 where
   pub idle : Bool
   -- the word that a reply brings
   pub word : List ℕ
-  -- what is kept of that reply as an ADC word, if it is stored
-  pub adc : AdcWord
+  -- that reply as an ADC word, stored or not
+  pub adc : (stored : Bool) → AdcWord
   -- a read of the channel's register at this offset
   pub reads : ℕ → Bool
   -- what it makes of command frames
@@ -105,7 +108,7 @@ readsNothing offset = false
 
 -- none of these but what it makes of command frames and tags: the call ends no group, resets and idles nothing, brings no word and reads no register
 abbrev pub changing : CommandChange → TagChange → Asks
-changing f g = record { groupEnd = false; reset = false; idle = false; word = []; adc = noReply; reads = readsNothing; commands = f; tags = g }
+changing f g = record { groupEnd = false; reset = false; idle = false; word = []; adc = noAdc; reads = readsNothing; commands = f; tags = g }
 
 -- none of these, whatever else it does
 abbrev pub asksNothing : Asks
@@ -114,17 +117,17 @@ asksNothing = changing leavesCommands leavesTags
 -- one of these alone
 abbrev pub groupEndIf : Bool → TagChange → Asks
 groupEndIf on g =
-    record { groupEnd = on; reset = false; idle = false; word = []; adc = noReply; reads = readsNothing; commands = λ a f. cond on (cmd.groupEnded f) f; tags = g }
+    record { groupEnd = on; reset = false; idle = false; word = []; adc = noAdc; reads = readsNothing; commands = λ a f. cond on (cmd.groupEnded f) f; tags = g }
 
 abbrev pub idleIf : Bool → CommandChange → TagChange → Asks
-idleIf on f g = record { groupEnd = false; reset = false; idle = on; word = []; adc = noReply; reads = readsNothing; commands = f; tags = g }
+idleIf on f g = record { groupEnd = false; reset = false; idle = on; word = []; adc = noAdc; reads = readsNothing; commands = f; tags = g }
 
-abbrev pub bringing : List ℕ → AdcWord → CommandChange → Asks
+abbrev pub bringing : List ℕ → (Bool → AdcWord) → CommandChange → Asks
 bringing word a f = record { groupEnd = false; reset = false; idle = false; word = word; adc = a; reads = readsNothing; commands = f; tags = leavesTags }
 
 abbrev pub reading : ℕ → Asks
 reading offset =
-    record { groupEnd = false; reset = false; idle = false; word = []; adc = noReply; reads = eqb offset; commands = leavesCommands; tags = leavesTags }
+    record { groupEnd = false; reset = false; idle = false; word = []; adc = noAdc; reads = eqb offset; commands = leavesCommands; tags = leavesTags }
 
 abbrev pub asks : OneChannel → ChannelCall → Asks
 asks o (call.writeRegister lent offset value) =
@@ -133,7 +136,7 @@ asks o (call.writeRegister lent offset value) =
       reset = eqb offset 0x06 && bitAt value 0;
       idle = false;
       word = [];
-      adc = noReply;
+      adc = noAdc;
       reads = readsNothing;
       commands = writtenBy offset value;
       tags = writtenTags offset value;

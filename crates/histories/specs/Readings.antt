@@ -12,7 +12,7 @@ use lib.ListN.{getD}
 use Rattle.codes.specs.Codes.{codeOf}
 use Rattle.codes.specs.Voltage.{IsFraction}
 use Rattle.adc_words.specs.declared.AdcWord.{AdcWord}
-use Rattle.adc_words.specs.Positions.{adcWord, noReply}
+use Rattle.adc_words.specs.Positions.{noReply}
 use Rattle.channel_core.specs.Results.{AdcReading, volts, lost, damaged}
 use Rattle.channel_core.specs.Answers.{Answer}
 use Rattle.channel_core.specs.Answers as ans
@@ -25,7 +25,7 @@ use Rattle.histories.specs.Windows.{idles, closed, windowSince}
 
 -- a reply that was answered kept or lost: whether it was stored, by its answer, and the CRC and data of its own frame
 abbrev pub becomes : Told → AdcWord
-becomes t = let a = asks (t .entry .before) (t .entry .call) .adc in adcWord (isKept (t .entry .answer)) (a .right) (a .«data»)
+becomes t = asks (t .entry .before) (t .entry .call) .adc (isKept (t .entry .answer))
 
 -- the replies to the last setpoint send since idle, in order
 abbrev pub repliesAfter : List AdcWord → Told → List AdcWord

@@ -1,4 +1,4 @@
--- `channel_replies::counted` meets its contract: the status by the CRC, one more reply, and what became of it at its position. Assumes nothing.
+-- `channel_replies::counted` meets its contract: the status by the CRC, one more reply, and what is kept of it, at its position. Assumes nothing.
 use borrow.Author.Needs.{needs}
 use Rattle.channel_replies.proofs.counted.Statement.{statement}
 use Rattle.channel_replies.proofs.counted.Tie as tie
