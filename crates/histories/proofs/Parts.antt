@@ -176,19 +176,20 @@ data-read f = go (framed f)
     go true = omega arith
     go false = tt
 
+-- one of two words
+pub selected-range : (first : Bool) (a b : AdcWord) → AdcInRange a → AdcInRange b → AdcInRange (cond first a b)
+selected-range true a b i j = i
+selected-range false a b i j = j
+
 replied-range : (w : AdcWords) (before : ℕ) (a : AdcWord) → AdcWordsInRange w → AdcInRange a → AdcWordsInRange (withReply w before a)
 unfolding withReply
 replied-range w before a h i =
     record {
-      third = at (eqb before 2) (w .third) (h .third);
-      fourth = at (eqb before 3) (w .fourth) (h .fourth);
-      fifth = at (eqb before 4) (w .fifth) (h .fifth);
-      sixth = at (eqb before 5) (w .sixth) (h .sixth);
+      third = selected-range (eqb before 2) a (w .third) i (h .third);
+      fourth = selected-range (eqb before 3) a (w .fourth) i (h .fourth);
+      fifth = selected-range (eqb before 4) a (w .fifth) i (h .fifth);
+      sixth = selected-range (eqb before 5) a (w .sixth) i (h .sixth);
     }
-  where
-    at : (here : Bool) (b : AdcWord) → AdcInRange b → AdcInRange (cond here a b)
-    at true b j = i
-    at false b j = j
 
 module _ (m : ℕ) where
   pub with-status : (c : Channel) (s : Status) → StatusInRange s → ChannelInRange m c → ChannelInRange m (withStatus c s)

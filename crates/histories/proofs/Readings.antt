@@ -44,7 +44,7 @@ use Rattle.histories.proofs.Calls.{steps, main-plain}
 use Rattle.histories.proofs.Cases.{by-offset}
 use Rattle.histories.proofs.Commands.{toldFrom, told-next}
 use Rattle.histories.proofs.Leaves.{leaves-event, leaves-command, leaves-read, leaves-main}
-use Rattle.histories.proofs.Parts.{opened-range}
+use Rattle.histories.proofs.Parts.{selected-range, opened-range}
 use Rattle.histories.proofs.Ranges.{channel-step, channel-from, Ordered, ordered-opened, ordered-step}
 use Rattle.histories.proofs.Refusing.{by-refusal}
 use Rattle.histories.proofs.Steps.{line-unreceived}
@@ -242,16 +242,13 @@ in-range n m setpoints readbacks ks = channel-from (oneChannel n m setpoints rea
 arrived-range : (w : AdcWords) (k : ℕ) → AdcWordsInRange w → AdcWordsInRange (arrived w k)
 unfolding arrived
 arrived-range w k h =
+    let none : AdcInRange noReply = omega arith in
     record {
-      third = at (ltb 2 k) (w .third) (h .third);
-      fourth = at (ltb 3 k) (w .fourth) (h .fourth);
-      fifth = at (ltb 4 k) (w .fifth) (h .fifth);
-      sixth = at (ltb 5 k) (w .sixth) (h .sixth);
+      third = selected-range (ltb 2 k) (w .third) noReply (h .third) none;
+      fourth = selected-range (ltb 3 k) (w .fourth) noReply (h .fourth) none;
+      fifth = selected-range (ltb 4 k) (w .fifth) noReply (h .fifth) none;
+      sixth = selected-range (ltb 5 k) (w .sixth) noReply (h .sixth) none;
     }
-  where
-    at : (come : Bool) (a : AdcWord) → AdcInRange a → AdcInRange (cond come a noReply)
-    at true a i = i
-    at false a i = omega arith
 
 pub readings-say : ReadingsSay
 readings-say n m setpoints readbacks ks k low high =

@@ -49,6 +49,7 @@ abbrev pub adcIn : Reading → (stored : Bool) → AdcWord
 adcIn (frame.refused k) stored = noReply
 adcIn (frame.fields id word aux crc) stored = adcWord stored (crcRight id word aux crc) word
 
+-- of a call that brings no reply
 abbrev pub noAdc : (stored : Bool) → AdcWord
 noAdc stored = noReply
 
