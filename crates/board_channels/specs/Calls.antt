@@ -80,16 +80,6 @@ unfoldable pub retiredAnswer : Board → ℕ → List ℕ → List ℕ → Answe
 retiredAnswer b number first second =
     unless (retiredRefusal b number (length first) (length second)) (ans.part (retiredWords b number first second))
 
--- the part that the call itself gives: "the empty part when refused" (`retired-part` of proofs/RetiredPart.antt)
-abbrev pub partOf : Answer → List ℕ
-partOf (ans.refused k) = []
-partOf (ans.value v) = []
-partOf (ans.frame f) = []
-partOf ans.kept = []
-partOf ans.lost = []
-partOf (ans.part s) = s
-partOf (ans.other r) = []
-
 unfoldable pub retiredLength : Board → ℕ → List ℕ → List ℕ → Answer
 retiredLength b number first second =
     unless (retiredRefusal b number (length first) (length second)) (ans.partLength (length (retiredWords b number first second)))

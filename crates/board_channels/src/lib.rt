@@ -7,10 +7,10 @@ use channel_replies::Receipt;
 use refusal::Refusal;
 ghost use mathlib.Core.Path.{_≡_};
 ghost use lib.ListN.{length};
-ghost use Rattle.channel_core.specs.Answers.{outcomeOf};
+ghost use Rattle.channel_core.specs.Answers.{outcomeOf, partOf};
 ghost use Rattle.channel_replies.specs.Answers.{receiptOf};
 ghost use Rattle.channel.specs.Answers.{lengthOf};
-ghost use Rattle.board_channels.specs.Calls.{setpointAnswer, setpointWords, setArmed, armBoard, disarmBoard, armAnswer, replyBoard, replyAnswer, replyWords, partOf, retiredAnswer, retiredLength};
+ghost use Rattle.board_channels.specs.Calls.{setpointAnswer, setpointWords, setArmed, armBoard, disarmBoard, armAnswer, replyBoard, replyAnswer, replyWords, retiredAnswer, retiredLength};
 
 // The board after a reply, and what became of it.
 pub struct Received {

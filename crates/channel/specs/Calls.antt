@@ -21,6 +21,12 @@ use Rattle.channel_core.specs.State.{withStatus, withSequencer, withCommands}
 use Rattle.channel_core.specs.Behaviour.{setpointPlace}
 use Rattle.channel_registers.specs.Calls.{withInterrupt, withPolling}
 
+-- ---- Refusals, one before another
+
+-- the first refusal, if there is one, before the second
+abbrev pub then : ℕ → ℕ → ℕ
+then first second = cond (eqb first 0) second first
+
 -- ---- Setpoint write
 
 -- "channel, user, buffer or index (from 0) out of range", but for the channel

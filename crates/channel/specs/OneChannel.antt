@@ -21,7 +21,9 @@ use Rattle.channel_core.specs.Behaviour.{userChanged, eventOf, eventWords, tick
 use Rattle.channel_replies.specs.Replying.{replyAnswer, replyOf, replyWords}
 use Rattle.channel_readings.specs.Measuring.{readingsAnswer}
 use Rattle.channel_registers.specs.Calls.{registerRefusal, registerEffect, registerWords, readEffect, readValue}
-use Rattle.channel.specs.Calls.{outside, setpointRefusal, setpointWords, armedOf, disarmedOf, retiredRefusal, mainBit, mainTaken}
+use Rattle.downloads.specs.Portions.{portionOf}
+use Rattle.channel.specs.Downloads.{downloadOpened, openingAnswer, portionRefusal, downloadPart}
+use Rattle.channel.specs.Calls.{then, outside, setpointRefusal, setpointWords, armedOf, disarmedOf, retiredRefusal, mainBit, mainTaken}
 
 -- the calls that name the channel and change nothing in any state; a register read may, and stands by itself. One more is a case here, with its
 -- refusal and its answer (`queryRefusal`, `queryAnswer`).
@@ -31,6 +33,9 @@ pub data Query : Type 0 where
   retiredLength : Query
   -- document 02, card 7: the readings of its last setpoint send, lent nothing
   readings : Query
+  -- document 02, card 8: a portion of its download, so many words from `first` on, and the twin
+  portion : (first size : ℕ) → Query
+  portionLength : (first size : ℕ) → Query
 
 -- the calls that name the channel, then the shared ones. `lent`, `one`, `two` are the lengths of what the call is lent.
 pub data ChannelCall : Type 0 where
@@ -39,6 +44,7 @@ pub data ChannelCall : Type 0 where
   writeSetpoint : (lent user buffer index word : ℕ) → ChannelCall
   arm : ChannelCall
   disarm : ChannelCall
+  openDownload : ChannelCall
   reply : (lent frame : ℕ) → ChannelCall
   query : (which : Query) (one two : ℕ) → ChannelCall
   tick : (lent : ℕ) → ChannelCall
@@ -80,10 +86,6 @@ oneChannel n m setpoints readbacks =
 abbrev pub lengthRefusal : ℕ → ℕ → ℕ
 lengthRefusal lent wanted = cond (eqb lent wanted) 0 (numberOf refusal.SizeMismatch)
 
--- the first refusal, if there is one, before the second
-abbrev pub then : ℕ → ℕ → ℕ
-then first second = cond (eqb first 0) second first
-
 -- 7, of a reply that is not well framed
 abbrev pub framingRefusal : Reading → ℕ
 framingRefusal (frame.refused k) = k
@@ -97,6 +99,8 @@ abbrev pub queryRefusal : OneChannel → Query → (one two : ℕ) → ℕ
 queryRefusal o retired one two = retiredRefusal (o .m) one two
 queryRefusal o retiredLength one two = retiredRefusal (o .m) one two
 queryRefusal o readings one two = 0
+queryRefusal o (portion first size) one two = portionRefusal (o .channel) (o .m) first size one two
+queryRefusal o (portionLength first size) one two = portionRefusal (o .channel) (o .m) first size one two
 
 unfoldable pub refusalOf : OneChannel → ChannelCall → ℕ
 refusalOf o (writeRegister lent offset value) = then (lengthRefusal lent (o .m * 8)) (registerRefusal (o .channel) offset value)
@@ -105,6 +109,7 @@ refusalOf o (writeSetpoint lent user buffer index word) =
     then (lengthRefusal lent (o .n * 64)) (setpointRefusal (o .channel) (o .n) user buffer index)
 refusalOf o arm = 0
 refusalOf o disarm = 0
+refusalOf o openDownload = 0
 refusalOf o (reply lent f) = then (lengthRefusal lent (o .m * 8)) (framingRefusal (read f))
 refusalOf o (query which one two) = queryRefusal o which one two
 refusalOf o (tick lent) = lengthRefusal lent (o .n * 64)
@@ -131,6 +136,7 @@ effect o (writeSetpoint lent user buffer index word) =
     withSetpoints o (setpointWords (o .channel) (o .setpoints) (o .n) user buffer index word)
 effect o arm = withChannel o (armedOf (o .channel))
 effect o disarm = withChannel o (disarmedOf (o .channel))
+effect o openDownload = withChannel o (downloadOpened (o .channel))
 effect o (reply lent f) =
     withReadbacks (withChannel o (replyOf (o .channel) (o .m) f)) (replyWords (o .channel) (o .readbacks) (o .m) (o .user) f)
 effect o (query which one two) = o
@@ -154,6 +160,10 @@ bufferTwo o = take (o .m) (drop (o .m) (o .readbacks))
 unfoldable pub retiredOf : OneChannel → List ℕ
 retiredOf o = retiredPart (secondActive (o .channel .registers) readbackPlace) (o .channel .readbacks .retired) (bufferOne o) (bufferTwo o)
 
+-- a portion of its download, of its own buffers
+unfoldable pub portionIn : OneChannel → (first size : ℕ) → List ℕ
+portionIn o first size = portionOf (downloadPart (o .channel) (bufferOne o) (bufferTwo o)) first size
+
 -- a read of 28 or 2A answers the channel its bit there, another Main use only that it was done
 abbrev pub mainAnswer : Channel → ℕ → Answer
 mainAnswer c offset =
@@ -163,6 +173,8 @@ abbrev pub queryAnswer : OneChannel → Query → Answer
 queryAnswer o retired = ans.part (retiredOf o)
 queryAnswer o retiredLength = ans.partLength (length (retiredOf o))
 queryAnswer o readings = readingsAnswer (o .channel)
+queryAnswer o (portion first size) = ans.part (portionIn o first size)
+queryAnswer o (portionLength first size) = ans.partLength (length (portionIn o first size))
 
 unfoldable pub answer : OneChannel → ChannelCall → Answer
 answer o (writeRegister lent offset value) = ans.done
@@ -170,6 +182,7 @@ answer o (readRegister offset) = ans.value (readValue (o .channel) offset)
 answer o (writeSetpoint lent user buffer index word) = ans.done
 answer o arm = ans.done
 answer o disarm = ans.done
+answer o openDownload = openingAnswer (o .channel)
 answer o (reply lent f) = replyAnswer (o .channel) (o .m) f
 answer o (query which one two) = queryAnswer o which
 answer o (tick lent) = tickAnswer (o .channel) (o .setpoints) (o .n) (o .user)

@@ -1,5 +1,7 @@
 // The calls that name a channel, but the register calls and the reply, over the channel by value and its own part of the lent memory.
 // They know no board and no other channel.
+pub mod download;
+
 use channel_core::Channel;
 use channel_core::Outcome;
 use refusal::Refusal;

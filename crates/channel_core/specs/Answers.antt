@@ -1,7 +1,7 @@
 -- Document 01, 'Calls' and 'A channel's life': what calls answer, in its own numbers and values, and which of them each case of an answer in the code stands for.
 use Prim.Native.Nat.{ℕ}
 use mathlib.Core.Bool.{Bool, true, false, cond}
-use mathlib.Core.List.{List}
+use mathlib.Core.List.{List, []}
 use lib.Dec.{eqb}
 use Rattle.refusal.specs.Refusals.{numberOf}
 use Rattle.channel_core.specs.Results.{Result, AdcReading}
@@ -96,3 +96,15 @@ isReceived kept = true
 isReceived lost = true
 isReceived (part s) = false
 isReceived (other r) = false
+
+-- ---- The part in an answer
+
+-- the words that a call with this answer gives itself: "the empty part when refused"
+abbrev pub partOf : Answer → List ℕ
+partOf (refused k) = []
+partOf (value v) = []
+partOf (frame f) = []
+partOf kept = []
+partOf lost = []
+partOf (part s) = s
+partOf (other r) = []

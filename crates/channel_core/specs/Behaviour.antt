@@ -1,6 +1,6 @@
 -- Document 01, 'A channel's life': what a channel does, over its own part of the lent memory (16 × N setpoint words, 2 × M readback words).
 -- Document 02, card 1: command frames, at a tick and a Group End; card 2: what a setpoint send latches for the send before it; card 3: an end word at
--- every Group End; card 6: tags.
+-- every Group End; card 6: tags; card 8: what ends a download.
 use Prim.Native.Nat.{ℕ, _+_, _-_, _*_, _%_}
 use mathlib.Core.Bool.{Bool, true, false, cond}
 use mathlib.Core.List.{List}
@@ -13,6 +13,7 @@ use Rattle.status.specs.Latching.{latched, run, groupEnd, earlyEnd, missingRead
 use Rattle.registers.specs.declared.Registers.{Registers}
 use Rattle.registers.specs.Map.{periodOf, triggersOf, startEvent, groupEndEvent, tagEvent, delayOf, secondActive, readbackPlace}
 use Rattle.registers.specs.Map as reg
+use Rattle.downloads.specs.Portions.{noDownload}
 use Rattle.sequencer.specs.declared.LastSend.{LastSend}
 use Rattle.sequencer.specs.declared.Sequencer.{Sequencer}
 use Rattle.sequencer.specs.declared.Transmission.{Transmission}
@@ -52,8 +53,8 @@ userChanged c = withSequencer (withStatus c (earlyEnded (c .status) (c .sequence
 -- ---- Group End
 
 -- "Group End (event, or Commands D2), armed or not: latch EE ..; idle; ..; readback buffers switch, the new one empty; users with Switch D0
--- set switch and the bits clear; the setpoint count is shown, then cleared; latch GE." A command frame that waits for it is due (card 1), and "a tag not yet
--- used" is dropped (card 6).
+-- set switch and the bits clear; the setpoint count is shown, then cleared; latch GE." A command frame that waits for it is due (card 1), "a tag not yet
+-- used" is dropped (card 6), and it "ends the download" (card 8).
 unfoldable pub groupEnded : Channel → Channel
 groupEnded c =
     record {
@@ -62,6 +63,7 @@ groupEnded c =
       sequencer = seq.groupEnded (c .sequencer);
       readbacks = rb.groupEnded (c .readbacks);
       adc = c .adc;
+      download = noDownload;
       commands = cmd.groupEnded (c .commands);
     }
 

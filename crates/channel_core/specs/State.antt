@@ -8,6 +8,7 @@
 -- Card 2: "The channel record carries the Frame ID of its last setpoint send and this count."    sequencer
 -- Card 6: "a tag not yet used", and whether the last setpoint send used one    sequencer
 -- Card 7: the ADC words of "its last setpoint send", as far as replies to it have come    adc (crate `adc_words`)
+-- Card 8: the download, and the retired count that it "remembers"    download (crate `downloads`)
 use Prim.Native.Nat.{ℕ}
 use Rattle.status.specs.declared.Status.{Status}
 use Rattle.status.specs.Latching as st
@@ -15,6 +16,8 @@ use Rattle.registers.specs.declared.Registers.{Registers}
 use Rattle.registers.specs.Map as reg
 use Rattle.adc_words.specs.declared.AdcWords.{AdcWords}
 use Rattle.adc_words.specs.Positions.{noneArrived}
+use Rattle.downloads.specs.declared.Download.{Download}
+use Rattle.downloads.specs.Portions.{noDownload}
 use Rattle.sequencer.specs.declared.Sequencer.{Sequencer}
 use Rattle.sequencer.specs.Playing as seq
 use Rattle.readback.specs.declared.Readbacks.{Readbacks}
@@ -26,32 +29,36 @@ use Rattle.channel_core.specs.declared.Channel.{Channel}
 -- "all registers 0, channels disarmed, .. buffers 1 active, no readbacks"
 unfoldable pub opened : Channel
 opened =
-    record { status = st.opened; registers = reg.opened; sequencer = seq.opened; readbacks = rb.opened; adc = noneArrived; commands = cmd.opened }
+    record { status = st.opened; registers = reg.opened; sequencer = seq.opened; readbacks = rb.opened; adc = noneArrived; download = noDownload; commands = cmd.opened }
 
 -- "Reset D0 returns that channel to its opening state; lent words and its Main bits stay (bench)."; so it drops "a waiting frame" (card 1) and "a tag not
--- yet used" (card 6)
+-- yet used" (card 6), and "ends the download" (card 8)
 unfoldable pub reset : Channel → Channel
 reset c =
-    record { status = st.reset (c .status); registers = reg.opened; sequencer = seq.opened; readbacks = rb.opened; adc = noneArrived; commands = cmd.opened }
+    record { status = st.reset (c .status); registers = reg.opened; sequencer = seq.opened; readbacks = rb.opened; adc = noneArrived; download = noDownload; commands = cmd.opened }
 
 abbrev pub withStatus : Channel → Status → Channel
-withStatus c s = record { status = s; registers = c .registers; sequencer = c .sequencer; readbacks = c .readbacks; adc = c .adc; commands = c .commands }
+withStatus c s = record { status = s; registers = c .registers; sequencer = c .sequencer; readbacks = c .readbacks; adc = c .adc; download = c .download; commands = c .commands }
 
 abbrev pub withRegisters : Channel → Registers → Channel
-withRegisters c r = record { status = c .status; registers = r; sequencer = c .sequencer; readbacks = c .readbacks; adc = c .adc; commands = c .commands }
+withRegisters c r = record { status = c .status; registers = r; sequencer = c .sequencer; readbacks = c .readbacks; adc = c .adc; download = c .download; commands = c .commands }
 
 abbrev pub withSequencer : Channel → Sequencer → Channel
-withSequencer c s = record { status = c .status; registers = c .registers; sequencer = s; readbacks = c .readbacks; adc = c .adc; commands = c .commands }
+withSequencer c s = record { status = c .status; registers = c .registers; sequencer = s; readbacks = c .readbacks; adc = c .adc; download = c .download; commands = c .commands }
 
 abbrev pub withReadbacks : Channel → Readbacks → Channel
-withReadbacks c b = record { status = c .status; registers = c .registers; sequencer = c .sequencer; readbacks = b; adc = c .adc; commands = c .commands }
+withReadbacks c b = record { status = c .status; registers = c .registers; sequencer = c .sequencer; readbacks = b; adc = c .adc; download = c .download; commands = c .commands }
 
 abbrev pub withAdc : Channel → AdcWords → Channel
-withAdc c w = record { status = c .status; registers = c .registers; sequencer = c .sequencer; readbacks = c .readbacks; adc = w; commands = c .commands }
+withAdc c w = record { status = c .status; registers = c .registers; sequencer = c .sequencer; readbacks = c .readbacks; adc = w; download = c .download; commands = c .commands }
+
+abbrev pub withDownload : Channel → Download → Channel
+withDownload c d =
+    record { status = c .status; registers = c .registers; sequencer = c .sequencer; readbacks = c .readbacks; adc = c .adc; download = d; commands = c .commands }
 
 abbrev pub withCommands : Channel → CommandFrames → Channel
 withCommands c f =
-    record { status = c .status; registers = c .registers; sequencer = c .sequencer; readbacks = c .readbacks; adc = c .adc; commands = f }
+    record { status = c .status; registers = c .registers; sequencer = c .sequencer; readbacks = c .readbacks; adc = c .adc; download = c .download; commands = f }
 
 -- a condition happens
 abbrev pub conditionLatched : Channel → ℕ → Channel

@@ -4,6 +4,7 @@ mod ticks;
 
 use adc_words::AdcWords;
 use command_frames::CommandFrames;
+use downloads::Download;
 use readback::Readbacks;
 use refusal::Refusal;
 use registers::Registers;
@@ -26,6 +27,7 @@ pub struct Channel {
     pub sequencer: Sequencer,
     pub readbacks: Readbacks,
     pub adc: AdcWords,
+    pub download: Download,
     pub commands: CommandFrames,
 }
 
@@ -157,6 +159,7 @@ impl Channel {
             sequencer: Sequencer::opened(),
             readbacks: Readbacks::opened(),
             adc: AdcWords::none(),
+            download: Download::none(),
             commands: CommandFrames::opened(),
         }
     }
@@ -172,6 +175,7 @@ impl Channel {
             sequencer: Sequencer::opened(),
             readbacks: Readbacks::opened(),
             adc: AdcWords::none(),
+            download: Download::none(),
             commands: CommandFrames::opened(),
         }
     }
@@ -220,6 +224,7 @@ impl Channel {
             sequencer: sequencer.group_ended(),
             readbacks: readbacks.group_ended(),
             adc: adc,
+            download: Download::none(),
             commands: commands.group_ended(),
         }
     }

@@ -6,3 +6,4 @@ pub mod MissingRows
 pub mod EndWordRows
 pub mod TagRows
 pub mod ReadingRows
+pub mod DownloadRows

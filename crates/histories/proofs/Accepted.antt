@@ -19,7 +19,8 @@ use Rattle.channel_core.specs.Answers as ans
 use Rattle.channel_core.specs.Behaviour.{tickLine, playedOf, tickAnswer}
 use Rattle.channel_readings.specs.Measuring.{readingsAnswer}
 use Rattle.channel_replies.specs.Replying.{dispositionNow, receiptAnswer, replyAnswerAs, replyAnswer}
-use Rattle.channel.specs.OneChannel.{Query, ChannelCall, OneChannel, then, lengthRefusal, framingRefusal, refusalOf, queryAnswer, mainAnswer, answer}
+use Rattle.channel.specs.Calls.{then}
+use Rattle.channel.specs.OneChannel.{Query, ChannelCall, OneChannel, lengthRefusal, framingRefusal, refusalOf, queryAnswer, mainAnswer, answer}
 use Rattle.channel.specs.OneChannel as call
 use Rattle.channel.proofs.Cases.{clash, either}
 
@@ -66,6 +67,8 @@ unfolding readingsAnswer
 query-plain o call.retired = (refl, refl, refl)
 query-plain o call.retiredLength = (refl, refl, refl)
 query-plain o call.readings = (refl, refl, refl)
+query-plain o (call.portion first size) = (refl, refl, refl)
+query-plain o (call.portionLength first size) = (refl, refl, refl)
 
 -- nor is what answers a reply a frame
 pub reply-plain : (c : Channel) (m f : ℕ) → isFrame (replyAnswer c m f) ≡ false
@@ -99,6 +102,7 @@ accepted-answer o (call.readRegister offset) e = refl
 accepted-answer o (call.writeSetpoint lent user buffer index word) e = refl
 accepted-answer o call.arm e = refl
 accepted-answer o call.disarm e = refl
+accepted-answer o call.openDownload e = refl
 accepted-answer o (call.reply lent f) e =
     reply-accepted (o .channel) (o .m) f
     (then-passed (lengthRefusal lent (o .m * 8)) (framingRefusal (read f)) (eqb-true (refusalOf o (call.reply lent f)) 0 e) .1)

@@ -12,6 +12,7 @@ brought P o (call.readRegister offset) replies none = none
 brought P o (call.writeSetpoint lent user buffer index word) replies none = none
 brought P o call.arm replies none = none
 brought P o call.disarm replies none = none
+brought P o call.openDownload replies none = none
 brought P o (call.reply lent f) replies none = replies f
 brought P o (call.query which one two) replies none = none
 brought P o (call.tick lent) replies none = none

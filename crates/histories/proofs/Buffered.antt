@@ -28,6 +28,7 @@ use Rattle.channel_core.specs.Behaviour.{userChanged, groupEnded, groupWords, e
 use Rattle.channel_replies.specs.Replying.{dispositionNow, receiptAnswer, receivedChannel, receivedWords, commandReply, replyAnswerAs, replyAs, replyWordsAs, replyAnswer, replyOf, replyWords}
 use Rattle.channel_registers.specs.Calls.{registerEffect, registerWords}
 use Rattle.channel.specs.Calls.{armedOf, disarmedOf}
+use Rattle.channel.specs.Downloads.{downloadOpened}
 use Rattle.channel.specs.OneChannel.{ChannelCall, OneChannel, withChannel, withReadbacks, queryAnswer, mainAnswer, effect, answer, transition}
 use Rattle.channel.specs.OneChannel as call
 use Rattle.channel.proofs.Cases.{clash, either}
@@ -193,12 +194,13 @@ reply-buffered o f = go (read f)
 
 effect-buffered : (o : OneChannel) (k : ChannelCall)
     → Buffered o (effect o k) (asks o k .groupEnd) (asks o k .reset) (kept (answer o k) (takes (o .channel .commands)) (asks o k .word))
-unfolding effect answer armedOf disarmedOf tickOf userChanged
+unfolding effect answer armedOf disarmedOf downloadOpened tickOf userChanged
 effect-buffered o (call.writeRegister lent offset value) = register-buffered o offset value
 effect-buffered o (call.readRegister offset) = leaving o _ true (leaves-read (o .channel) offset)
 effect-buffered o (call.writeSetpoint lent user buffer index word) = unwritten o _ false true refl refl refl
 effect-buffered o call.arm = unwritten o _ false true refl refl refl
 effect-buffered o call.disarm = unwritten o _ false true refl refl refl
+effect-buffered o call.openDownload = unwritten o _ false true refl refl refl
 effect-buffered o (call.reply lent f) = reply-buffered o f
 effect-buffered o (call.query which one two) = same o (isKept (queryAnswer o which) && not (takes (o .channel .commands)))
 effect-buffered o (call.tick lent) = unwritten o _ false (isKept (answer o (call.tick lent)) && not (takes (o .channel .commands))) refl refl refl

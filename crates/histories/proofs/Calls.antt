@@ -18,6 +18,7 @@ use Rattle.channel_core.specs.Answers as ans
 use Rattle.channel_core.specs.Behaviour.{dueOf, tickOf, tickAnswer, userChanged}
 use Rattle.channel_registers.specs.Calls.{registerEffect, readEffect, readValue}
 use Rattle.channel.specs.Calls.{mainTaken, armedOf, disarmedOf}
+use Rattle.channel.specs.Downloads.{downloadOpened}
 use Rattle.channel.specs.OneChannel.{ChannelCall, OneChannel, effect, answer, transition, response, mainRead, mainAnswer, userChange}
 use Rattle.channel.specs.OneChannel as call
 use Rattle.histories.specs.History.{entry, asks, endsGroup, resets, stops, readsAt}
@@ -123,7 +124,7 @@ period-some clock = go (eqb clock 0) (eqb clock 1) (eqb clock 2)
 -- what a call does that is not refused
 effect-steps : (o : OneChannel) (k : ChannelCall) → ApartIn (o .channel)
     → StepsOf (o .n) (o .channel) (answer o k) (asks o k .groupEnd) (asks o k .reset) (asks o k .idle) (asks o k .reads 0x0c) (effect o k .channel .sequencer)
-unfolding effect answer armedOf disarmedOf disarmed idled tickOf tickAnswer
+unfolding effect answer armedOf disarmedOf downloadOpened disarmed idled tickOf tickAnswer
 effect-steps o (call.writeRegister lent offset value) p = register-steps (o .n) (o .channel) offset value
 effect-steps o (call.readRegister offset) p =
     subst (λ (t : Sequencer). StepsOf (o .n) (o .channel) (ans.value (readValue (o .channel) offset)) false false false (eqb offset 0x0c) t)
@@ -131,6 +132,7 @@ effect-steps o (call.readRegister offset) p =
 effect-steps o (call.writeSetpoint lent user buffer index word) p = same-steps (o .n) (o .channel) _ _ (refl, refl) refl
 effect-steps o call.arm p = kept-steps (o .n) (o .channel) _ _ (refl, refl) (keeps-armed (o .channel .sequencer))
 effect-steps o call.disarm p = idle-steps (o .n) (o .channel .sequencer) false false false
+effect-steps o call.openDownload p = same-steps (o .n) (o .channel) _ _ (refl, refl) refl
 effect-steps o (call.reply lent f) p = reply-steps (o .n) (o .channel) (o .m) f _
 effect-steps o (call.query which one two) p = same-steps (o .n) (o .channel) _ _ (query-plain o which .1, query-plain o which .2) refl
 effect-steps o (call.tick lent) p =

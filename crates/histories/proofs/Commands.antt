@@ -27,6 +27,7 @@ use Rattle.channel_core.proofs.Laws.{line-none, line-command}
 use Rattle.channel_replies.specs.Replying.{dispositionNow, receiptAnswer, receivedChannel, commandReply, replyAnswerAs, replyAs, replyAnswer, replyOf}
 use Rattle.channel_registers.specs.Calls.{registerEffect, readValue}
 use Rattle.channel.specs.Calls.{armedOf, disarmedOf}
+use Rattle.channel.specs.Downloads.{downloadOpened}
 use Rattle.channel.specs.OneChannel.{ChannelCall, OneChannel, oneChannel, refusalOf, effect, answer, transition, response, transitions, readRegister, tick}
 use Rattle.channel.specs.OneChannel as call
 use Rattle.channel.proofs.Cases.{clash, either}
@@ -121,12 +122,13 @@ register-commands c offset value =
 
 effect-commands : (o : OneChannel) (k : ChannelCall) → ApartIn (o .channel)
     → effect o k .channel .commands ≡ asks o k .commands (answer o k) (o .channel .commands)
-unfolding effect answer armedOf disarmedOf tickOf tickAnswer userChanged
+unfolding effect answer armedOf disarmedOf downloadOpened tickOf tickAnswer userChanged
 effect-commands o (call.writeRegister lent offset value) p = register-commands (o .channel) offset value
 effect-commands o (call.readRegister offset) p = leaves-read (o .channel) offset .commands
 effect-commands o (call.writeSetpoint lent user buffer index word) p = refl
 effect-commands o call.arm p = refl
 effect-commands o call.disarm p = refl
+effect-commands o call.openDownload p = refl
 effect-commands o (call.reply lent f) p = reply-commands (o .channel) (o .m) f
 effect-commands o (call.query which one two) p = refl
 effect-commands o (call.tick lent) p =

@@ -55,6 +55,7 @@ ended-effect o (call.readRegister offset) e = clash e
 ended-effect o (call.writeSetpoint lent user buffer index word) e = clash e
 ended-effect o call.arm e = clash e
 ended-effect o call.disarm e = clash e
+ended-effect o call.openDownload e = clash e
 ended-effect o (call.reply lent f) e = clash e
 ended-effect o (call.query which one two) e = clash e
 ended-effect o (call.tick lent) e = clash e

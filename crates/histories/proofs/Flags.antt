@@ -32,6 +32,7 @@ use Rattle.channel_core.specs.Behaviour.{started, startedIf, endedIf, resumedIf
 use Rattle.channel_replies.specs.Replying.{crcStatus, dispositionNow, receivedChannel, replyAs, replyOf}
 use Rattle.channel_registers.specs.Calls.{registerEffect, readEffect}
 use Rattle.channel.specs.Calls.{mainTaken, armedOf, disarmedOf}
+use Rattle.channel.specs.Downloads.{downloadOpened}
 use Rattle.channel.specs.OneChannel.{ChannelCall, OneChannel, effect, answer, transition, response, mainRead}
 use Rattle.channel.specs.OneChannel as call
 use Rattle.channel.proofs.Cases.{either}
@@ -242,12 +243,13 @@ module _ (polling : Bool) where
 
   effect-steps : (o : OneChannel) (k : ChannelCall) → ApartIn (o .channel) → StatusInRange (o .channel .status)
       → Steps (o .channel) (answer o k) (asks o k .reset) (asks o k .reads) (effect o k .channel .status)
-  unfolding effect answer armedOf disarmedOf userChanged
+  unfolding effect answer armedOf disarmedOf downloadOpened userChanged
   effect-steps o (call.writeRegister lent offset value) p r = register-steps (o .channel) offset value
   effect-steps o (call.readRegister offset) p r = read-steps (o .channel) offset _
   effect-steps o (call.writeSetpoint lent user buffer index word) p r = plain-steps (o .channel) _ _ refl refl
   effect-steps o call.arm p r = plain-steps (o .channel) _ _ refl refl
   effect-steps o call.disarm p r = plain-steps (o .channel) _ _ refl refl
+  effect-steps o call.openDownload p r = plain-steps (o .channel) _ _ refl refl
   effect-steps o (call.reply lent f) p r =
       plain-steps (o .channel) _ _ (reply-plain (o .channel) (o .m) f) (keeps-reply (o .channel) (o .m) f)
   effect-steps o (call.query which one two) p r = plain-steps (o .channel) _ _ (query-plain o which .1) refl

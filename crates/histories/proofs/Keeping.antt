@@ -69,15 +69,21 @@ pub words-long : (o : OneChannel) (ks : List ChannelCall) → length (transition
 words-long o [] = refl
 words-long o (k ∷ ks) = words-long (transition o k) ks ∙ stays o k .readback-words
 
+-- retired readbacks has the words of the group before
+pub retired-held : (o : OneChannel) (m : ℕ) (g : Kept) → o .m ≡ m → length (o .readbacks) ≡ m * 2 → ChannelInRange (o .m) (o .channel) → HoldsIn o g
+    → retiredOf o ≡ g .retired
+unfolding retiredOf
+retired-held o m g d l r h =
+    let few : o .channel .readbacks .retired ≤ o .m = omega (arith, r .readbacks .retired) in
+    front-retired (secondActive (o .channel .registers) readbackPlace) (o .m) (o .channel .readbacks .retired) (o .readbacks) few
+    ∙ h .inactive (l ∙ ap (λ (x : ℕ). x * 2) (sym d))
+
 pub retires : (o : OneChannel) (m : ℕ) (g : Kept) → o .m ≡ m → length (o .readbacks) ≡ m * 2 → ChannelInRange (o .m) (o .channel) → HoldsIn o g
     → (response o (call.query call.retired m m) ≡ part (g .retired)) × (response o (call.query call.retiredLength m m) ≡ partLength (length (g .retired)))
-unfolding answer retiredOf refusalOf
+unfolding answer refusalOf
 retires o m g d l r h =
     let fits : eqb m (o .m) ≡ true = eq-eqb m (o .m) (sym d) in
-    let few : o .channel .readbacks .retired ≤ o .m = omega (arith, r .readbacks .retired) in
-    let e : retiredOf o ≡ g .retired =
-    front-retired (secondActive (o .channel .registers) readbackPlace) (o .m) (o .channel .readbacks .retired) (o .readbacks) few
-    ∙ h .inactive (l ∙ ap (λ (x : ℕ). x * 2) (sym d)) in (
+    let e = retired-held o m g d l r h in (
       accepted-response o (call.query call.retired m m) (rw fits) ∙ ap part e,
       accepted-response o (call.query call.retiredLength m m) (rw fits) ∙ ap (λ (t : List ℕ). partLength (length t)) e,
     )

@@ -1,4 +1,4 @@
--- Start, Resume, Tag and reads leave the registers, the stored readback counts, the ADC words and the command frames. Assumes nothing.
+-- Start, Resume, Tag and reads leave the registers, the stored readback counts, the ADC words, the download and the command frames. Assumes nothing.
 use Prim.Native.Nat.{ℕ}
 use mathlib.Core.Path.{_≡_, refl, _∙_}
 use mathlib.Core.Bool.{Bool, true, false}
@@ -17,31 +17,32 @@ pub record Leaves (c d : Channel) : Type 0 where
   pub registers : d .registers ≡ c .registers
   pub readbacks : d .readbacks ≡ c .readbacks
   pub adc : d .adc ≡ c .adc
+  pub download : d .download ≡ c .download
   pub commands : d .commands ≡ c .commands
 
 pub leaves-all : (c : Channel) → Leaves c c
-leaves-all c = record { registers = refl; readbacks = refl; adc = refl; commands = refl }
+leaves-all c = record { registers = refl; readbacks = refl; adc = refl; download = refl; commands = refl }
 
 leaves-both : {c d e : Channel} → Leaves c d → Leaves d e → Leaves c e
-leaves-both a b = record { registers = b .registers ∙ a .registers; readbacks = b .readbacks ∙ a .readbacks; adc = b .adc ∙ a .adc; commands = b .commands ∙ a .commands }
+leaves-both a b = record { registers = b .registers ∙ a .registers; readbacks = b .readbacks ∙ a .readbacks; adc = b .adc ∙ a .adc; download = b .download ∙ a .download; commands = b .commands ∙ a .commands }
 
 leaves-started : (on : Bool) (c : Channel) (delay : ℕ) → Leaves c (startedIf on c delay)
 unfolding startedIf started
 leaves-started true c delay =
     either (Leaves c) (c .sequencer .armed)
     (leaves-both
-    (either (Leaves c) (isIdle (c .sequencer .stage)) (record { registers = refl; readbacks = refl; adc = refl; commands = refl }) (leaves-all c))
-    (record { registers = refl; readbacks = refl; adc = refl; commands = refl }))
+    (either (Leaves c) (isIdle (c .sequencer .stage)) (record { registers = refl; readbacks = refl; adc = refl; download = refl; commands = refl }) (leaves-all c))
+    (record { registers = refl; readbacks = refl; adc = refl; download = refl; commands = refl }))
     (leaves-all c)
 leaves-started false c delay = leaves-all c
 
 leaves-resumed : (on : Bool) (c : Channel) (pause delay : ℕ) → Leaves c (resumedIf on c pause delay)
 unfolding resumedIf
-leaves-resumed on c pause delay = either (Leaves c) on (record { registers = refl; readbacks = refl; adc = refl; commands = refl }) (leaves-all c)
+leaves-resumed on c pause delay = either (Leaves c) on (record { registers = refl; readbacks = refl; adc = refl; download = refl; commands = refl }) (leaves-all c)
 
 leaves-tagged : (on : Bool) (c : Channel) → Leaves c (taggedIf on c)
 unfolding taggedIf
-leaves-tagged on c = either (Leaves c) on (record { registers = refl; readbacks = refl; adc = refl; commands = refl }) (leaves-all c)
+leaves-tagged on c = either (Leaves c) on (record { registers = refl; readbacks = refl; adc = refl; download = refl; commands = refl }) (leaves-all c)
 
 -- what one event or command does after its Group End, if any
 pub leaves-event : (c : Channel) (user code : ℕ) → Leaves (endedIf (triggersOf (c .registers) groupEndEvent code) c) (eventOf c user code)
@@ -60,14 +61,14 @@ leaves-command c value = leaves-both (leaves-started _ _ _) (leaves-both (leaves
 pub leaves-read : (c : Channel) (offset : ℕ) → Leaves c (readEffect c offset)
 unfolding readEffect
 leaves-read c offset =
-    either (Leaves c) (eqb offset 0x02) (record { registers = refl; readbacks = refl; adc = refl; commands = refl })
-    (either (Leaves c) (eqb offset 0x04) (record { registers = refl; readbacks = refl; adc = refl; commands = refl })
-    (either (Leaves c) (eqb offset 0x0c) (record { registers = refl; readbacks = refl; adc = refl; commands = refl }) (leaves-all c)))
+    either (Leaves c) (eqb offset 0x02) (record { registers = refl; readbacks = refl; adc = refl; download = refl; commands = refl })
+    (either (Leaves c) (eqb offset 0x04) (record { registers = refl; readbacks = refl; adc = refl; download = refl; commands = refl })
+    (either (Leaves c) (eqb offset 0x0c) (record { registers = refl; readbacks = refl; adc = refl; download = refl; commands = refl }) (leaves-all c)))
 
 leaves-taken : (c : Channel) (polling : Bool) → Leaves c (mainTaken c polling)
 unfolding mainTaken
 leaves-taken c polling =
-    either (Leaves c) polling (record { registers = refl; readbacks = refl; adc = refl; commands = refl }) (record { registers = refl; readbacks = refl; adc = refl; commands = refl })
+    either (Leaves c) polling (record { registers = refl; readbacks = refl; adc = refl; download = refl; commands = refl }) (record { registers = refl; readbacks = refl; adc = refl; download = refl; commands = refl })
 
 pub leaves-main : (c : Channel) (offset : ℕ) → Leaves c (mainRead c offset)
 leaves-main c offset =

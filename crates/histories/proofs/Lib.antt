@@ -30,3 +30,4 @@ pub mod Tagged
 pub mod Brought
 pub mod Tags
 pub mod Readings
+pub mod Downloads

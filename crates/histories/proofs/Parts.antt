@@ -37,6 +37,7 @@ use Rattle.channel_core.specs.State.{opened, reset, withStatus, withRegisters, 
 use Rattle.channel_core.specs.Behaviour.{started, startedIf, endedIf, resumedIf, taggedIf, resumedOn, eventOf, commanded, groupEnded, earlyEnded, userChanged, conditionStatus, sendStatus, isSetpoint, dueOf, playedOf, tickOf}
 use Rattle.channel_replies.specs.Replying.{crcStatus, dispositionNow, receivedChannel, replyAs, replyOf}
 use Rattle.channel.specs.Calls.{disarmedOf}
+use Rattle.channel.specs.Downloads.{downloadOpened}
 use Rattle.channel.proofs.Cases.{clash, either, by-test}
 use Rattle.histories.proofs.Ticks.{Latching, plays-ticked}
 use Rattle.histories.specs.Statuses.{isCondition}
@@ -159,8 +160,6 @@ received-commands f wrong id word h =
     (λ e. record { count = omega (arith, taken-few f e); replies = simp length-set (h .replies) })
     (λ e. h)
 
--- ---- The channel
-
 -- ---- ADC words
 
 -- the data of a frame has 16 bits
@@ -191,18 +190,20 @@ replied-range w before a h i =
       sixth = selected-range (eqb before 5) a (w .sixth) i (h .sixth);
     }
 
+-- ---- The channel
+
 module _ (m : ℕ) where
   pub with-status : (c : Channel) (s : Status) → StatusInRange s → ChannelInRange m c → ChannelInRange m (withStatus c s)
-  with-status c s h k = record { status = h; registers = k .registers; readbacks = k .readbacks; adc = k .adc; commands = k .commands }
+  with-status c s h k = record { status = h; registers = k .registers; readbacks = k .readbacks; adc = k .adc; download = k .download; commands = k .commands }
 
   pub with-registers : (c : Channel) (r : Registers) → RegistersInRange r → ChannelInRange m c → ChannelInRange m (withRegisters c r)
-  with-registers c r h k = record { status = k .status; registers = h; readbacks = k .readbacks; adc = k .adc; commands = k .commands }
+  with-registers c r h k = record { status = k .status; registers = h; readbacks = k .readbacks; adc = k .adc; download = k .download; commands = k .commands }
 
   pub with-sequencer : (c : Channel) (s : Sequencer) → ChannelInRange m c → ChannelInRange m (withSequencer c s)
-  with-sequencer c s k = record { status = k .status; registers = k .registers; readbacks = k .readbacks; adc = k .adc; commands = k .commands }
+  with-sequencer c s k = record { status = k .status; registers = k .registers; readbacks = k .readbacks; adc = k .adc; download = k .download; commands = k .commands }
 
   with-commands : (c : Channel) (f : CommandFrames) → CommandsInRange f → ChannelInRange m c → ChannelInRange m (withCommands c f)
-  with-commands c f h k = record { status = k .status; registers = k .registers; readbacks = k .readbacks; adc = k .adc; commands = h }
+  with-commands c f h k = record { status = k .status; registers = k .registers; readbacks = k .readbacks; adc = k .adc; download = k .download; commands = h }
 
   pub opened-range : ChannelInRange m opened
   unfolding opened
@@ -212,6 +213,7 @@ module _ (m : ℕ) where
         registers = record { clock = omega arith; active = refl; id = omega arith; events = refl; switches = refl; delays = refl };
         readbacks = record { stored = omega arith; retired = omega arith };
         adc = record { third = omega arith; fourth = omega arith; fifth = omega arith; sixth = omega arith };
+        download = λ e. clash e;
         commands = record { count = omega arith; replies = refl };
       }
 
@@ -223,6 +225,7 @@ module _ (m : ℕ) where
         registers = opened-range .registers;
         readbacks = opened-range .readbacks;
         adc = opened-range .adc;
+        download = λ e. clash e;
         commands = opened-range .commands;
       }
 
@@ -243,6 +246,7 @@ module _ (m : ℕ) where
         registers = group-registers (c .registers) (c .sequencer .count) (h .registers);
         readbacks = record { stored = omega arith; retired = h .readbacks .stored };
         adc = h .adc;
+        download = λ e. clash e;
         commands = group-commands (c .commands) (h .commands);
       }
 
@@ -287,6 +291,11 @@ module _ (m : ℕ) where
   unfolding disarmedOf
   disarm-range c h = with-commands _ _ (dropped-commands (c .commands) (h .commands)) (with-sequencer c _ h)
 
+  pub download-range : (c : Channel) → ChannelInRange m c → ChannelInRange m (downloadOpened c)
+  unfolding downloadOpened
+  download-range c h =
+      record { status = h .status; registers = h .registers; readbacks = h .readbacks; adc = h .adc; download = λ e. refl; commands = h .commands }
+
   -- E0–FE
   pub commands-range : (c : Channel) (offset value : ℕ) → ChannelInRange m c → ChannelInRange m (withCommands c (cmd.stored (c .commands) offset value))
   commands-range c offset value h = with-commands c _ (stored-commands (c .commands) offset value (h .commands)) h
@@ -309,6 +318,7 @@ module _ (m : ℕ) where
         registers = h .registers;
         readbacks = h .readbacks;
         adc = replied-range (c .adc) (c .sequencer .last .replies) (adcWord false right word) (h .adc) fits;
+        download = h .download;
         commands = h .commands;
       }
   disposition-range disposition.Kept c right word fits h =
@@ -317,6 +327,7 @@ module _ (m : ℕ) where
         registers = h .registers;
         readbacks = kept-range (c .readbacks) (h .readbacks);
         adc = replied-range (c .adc) (c .sequencer .last .replies) (adcWord true right word) (h .adc) fits;
+        download = h .download;
         commands = h .commands;
       }
 

@@ -21,6 +21,7 @@ use Rattle.channel_core.specs.Answers.{Answer, isFrame}
 use Rattle.channel_core.specs.Behaviour.{userChanged}
 use Rattle.channel_registers.specs.Calls.{cannotSend, registerRefusal, registerEffect, readEffect}
 use Rattle.channel.specs.Calls.{outside, armedOf, mainTaken}
+use Rattle.channel.specs.Downloads.{downloadOpened}
 use Rattle.channel.specs.OneChannel.{ChannelCall, OneChannel, oneChannel, lengthRefusal, refusalOf, effect, transition, response, transitions, mainRead, withUser, withChannel, withReadbacks, userRefusal}
 use Rattle.channel.specs.OneChannel as call
 use Rattle.channel.proofs.Cases.{passed, either}
@@ -33,7 +34,7 @@ use Rattle.histories.proofs.Leaves.{leaves-read, leaves-main}
 use Rattle.histories.proofs.Apart.{ApartIn, apart-opened, apart-event, apart-user, apart-arm, apart-disarm, apart-tick, apart-reply, apart-register}
 use Rattle.histories.proofs.Depths.{depths-step}
 use Rattle.histories.proofs.Lengths.{SameLength, event-length, register-length, setpoint-length, reply-length}
-use Rattle.histories.proofs.Parts.{none-range, stored-range, with-status, with-registers, with-sequencer, opened-range, reset-range, event-range, command-range, user-range, tick-range, disarm-range, commands-range, reply-range}
+use Rattle.histories.proofs.Parts.{none-range, stored-range, with-status, with-registers, with-sequencer, opened-range, reset-range, event-range, command-range, user-range, tick-range, disarm-range, download-range, commands-range, reply-range}
 use Rattle.histories.proofs.Refusing.{by-refusal}
 
 -- what a call leaves in range but for the sequencer, from any state, and the lengths that it leaves
@@ -139,6 +140,7 @@ effect-stays o (call.writeSetpoint lent user buffer index word) e =
     }
 effect-stays o call.arm e = channel-stays o _ (with-sequencer (o .m) (o .channel) _)
 effect-stays o call.disarm e = channel-stays o _ (disarm-range (o .m) (o .channel))
+effect-stays o call.openDownload e = channel-stays o _ (download-range (o .m) (o .channel))
 effect-stays o (call.reply lent f) e =
     readbacks-stay o _ _ (reply-range (o .m) (o .channel) f) (reply-length (o .channel) (o .readbacks) (o .m) (o .user) f)
 effect-stays o (call.query which one two) e = all-stays o
@@ -156,7 +158,7 @@ stays o k =
 -- ---- Command frames and setpoints
 
 effect-apart : (o : OneChannel) (k : ChannelCall) → refusalOf o k ≡ 0 → Quiet (o .channel .sequencer) → ApartIn (o .channel) → ApartIn (effect o k .channel)
-unfolding refusalOf effect
+unfolding refusalOf effect downloadOpened
 effect-apart o (call.writeRegister lent offset value) e q p =
     let f = then-passed (lengthRefusal lent (o .m * 8)) (registerRefusal (o .channel) offset value) e .1 in
     apart-register (o .channel) p q offset value (register-passed (o .channel) offset value f .0)
@@ -164,6 +166,7 @@ effect-apart o (call.readRegister offset) e q p = read-apart (o .channel) offset
 effect-apart o (call.writeSetpoint lent user buffer index word) e q p = p
 effect-apart o call.arm e q p = apart-arm (o .channel) p
 effect-apart o call.disarm e q p = apart-disarm (o .channel) p
+effect-apart o call.openDownload e q p = p
 effect-apart o (call.reply lent f) e q p = apart-reply (o .channel) p (o .m) f
 effect-apart o (call.query which one two) e q p = p
 effect-apart o (call.tick lent) e q p = apart-tick (o .channel) p (o .setpoints) (o .n) (o .user)

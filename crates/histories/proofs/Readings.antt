@@ -31,6 +31,7 @@ use Rattle.channel_replies.specs.Replying.{dispositionNow, receiptAnswer, recei
 use Rattle.channel_readings.specs.Measuring.{measured, readingsAnswer}
 use Rattle.channel_registers.specs.Calls.{registerEffect}
 use Rattle.channel.specs.Calls.{armedOf, disarmedOf}
+use Rattle.channel.specs.Downloads.{downloadOpened}
 use Rattle.channel.specs.OneChannel.{ChannelCall, OneChannel, oneChannel, refusalOf, effect, answer, transition, response, transitions, queryAnswer, mainAnswer, mainRead}
 use Rattle.channel.specs.OneChannel as call
 use Rattle.channel.proofs.Cases.{clash, either}
@@ -137,12 +138,13 @@ reply-adc c m f = go (read f)
     go (frame.fields id word aux crc) = fields id word aux crc (takes (c .commands)) refl
 
 effect-adc : (o : OneChannel) (k : ChannelCall) → AdcStep (o .channel) (answer o k) (asks o k .reset) (asks o k .adc) (effect o k .channel)
-unfolding effect answer armedOf disarmedOf tickOf tickAnswer userChanged
+unfolding effect answer armedOf disarmedOf downloadOpened tickOf tickAnswer userChanged
 effect-adc o (call.writeRegister lent offset value) = register-adc (o .channel) offset value
 effect-adc o (call.readRegister offset) = leaves-read (o .channel) offset .adc
 effect-adc o (call.writeSetpoint lent user buffer index word) = refl
 effect-adc o call.arm = refl
 effect-adc o call.disarm = refl
+effect-adc o call.openDownload = refl
 effect-adc o (call.reply lent f) = reply-adc (o .channel) (o .m) f
 effect-adc o (call.query which one two) = plain-adc (o .channel) (queryAnswer o which) noAdc (o .channel) (query-plain o which .2) refl
 effect-adc o (call.tick lent) =

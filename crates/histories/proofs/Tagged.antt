@@ -31,6 +31,7 @@ use Rattle.channel_core.specs.Behaviour as core
 use Rattle.channel_replies.specs.Replying.{dispositionNow, receivedChannel, replyAs, replyOf}
 use Rattle.channel_registers.specs.Calls.{registerEffect, readEffect}
 use Rattle.channel.specs.Calls.{armedOf, disarmedOf, mainTaken}
+use Rattle.channel.specs.Downloads.{downloadOpened}
 use Rattle.channel.specs.OneChannel.{ChannelCall, OneChannel, refusalOf, effect, answer, transition, response, mainRead, userChange}
 use Rattle.channel.specs.OneChannel as call
 use Rattle.channel.proofs.Cases.{clash, either, by-test}
@@ -272,12 +273,13 @@ plain c d a g none e h = rw none (same-held c d g e h)
 
 effect-held : (o : OneChannel) (k : ChannelCall) (g : Tags) → ApartIn (o .channel) → Held (o .channel) g
     → Held (effect o k .channel) (by (o .channel) (answer o k) (asks o k .tags) g)
-unfolding effect answer armedOf seq.armed disarmedOf seq.disarmed seq.idled
+unfolding effect answer armedOf seq.armed disarmedOf seq.disarmed seq.idled downloadOpened
 effect-held o (call.writeRegister lent offset value) g p h = held-register (o .channel) offset value g h
 effect-held o (call.readRegister offset) g p h = same-held (o .channel) (readEffect (o .channel) offset) g (same-read (o .channel) offset) h
 effect-held o (call.writeSetpoint lent user buffer index word) g p h = h
 effect-held o call.arm g p h = record { armed = refl; events = h .events; tag = h .tag; tagged = h .tagged; only-armed = λ e. refl }
 effect-held o call.disarm g p h = record { armed = refl; events = h .events; tag = refl; tagged = λ e. clash e; only-armed = λ e. clash e }
+effect-held o call.openDownload g p h = h
 effect-held o (call.reply lent f) g p h =
     plain (o .channel) (replyOf (o .channel) (o .m) f) (answer o (call.reply lent f)) g (reply-plain (o .channel) (o .m) f)
     (same-reply (o .channel) (o .m) f) h

@@ -12,3 +12,4 @@ pub mod Ranges
 pub mod EndWords
 pub mod Tags
 pub mod Readings
+pub mod Downloads

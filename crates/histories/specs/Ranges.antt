@@ -1,7 +1,8 @@
 -- Document 01, 'The bench and its memory' and 'A channel's life': the ranges of what a channel holds, which it keeps to over any list of calls. So no
 -- default past a list's end or below a range is ever used. Document 02, card 1: nor that of a tick on which a command frame and a setpoint would leave.
 -- Card 2: the count of missing readbacks. Card 3: a place of each readback buffer is left for its end word. Card 6: 2C is a
--- seventh event register. Card 7: the data of ADC words, so that each has a code of 16 bits.
+-- seventh event register. Card 7: the data of ADC words, so that each has a code of 16 bits. Card 8: the count that a download
+-- remembers, so that no portion goes past the retired part.
 use Prim.Native.Nat.{ℕ, _-_, _*_, _≤_, _<_}
 use mathlib.Core.Path.{_≡_}
 use mathlib.Core.Bool.{Bool, true, false}
@@ -12,6 +13,7 @@ use Rattle.status.specs.declared.Status.{Status}
 use Rattle.registers.specs.declared.Registers.{Registers}
 use Rattle.adc_words.specs.declared.AdcWord.{AdcWord}
 use Rattle.adc_words.specs.declared.AdcWords.{AdcWords}
+use Rattle.downloads.specs.declared.Download.{Download}
 use Rattle.sequencer.specs.declared.Stage.{Stage}
 use Rattle.sequencer.specs.declared.Stage.the-variants as stage
 use Rattle.sequencer.specs.declared.Sequencer.{Sequencer}
@@ -88,6 +90,10 @@ pub record AdcWordsInRange (w : AdcWords) : Type 0 where
   pub fifth : AdcInRange (w .fifth)
   pub sixth : AdcInRange (w .sixth)
 
+-- an open download remembers the count of the part that is retired: it was opened after that part's Group End, and ends with the next
+abbrev pub DownloadInRange : Download → Readbacks → Type 0
+DownloadInRange d r = d .opened ≡ true → d .count ≡ r .retired
+
 -- "six pairs", of which FE counts those that came
 pub record CommandsInRange (f : CommandFrames) : Type 0 where
   pub count : f .count ≤ 6
@@ -99,6 +105,7 @@ pub record ChannelInRange (m : ℕ) (c : Channel) : Type 0 where
   pub registers : RegistersInRange (c .registers)
   pub readbacks : ReadbacksInRange m (c .readbacks)
   pub adc : AdcWordsInRange (c .adc)
+  pub download : DownloadInRange (c .download) (c .readbacks)
   pub commands : CommandsInRange (c .commands)
 
 -- command frames and setpoints keep apart: neither leaves with the other, and while one waits for the next tick, or replies go to E4–FA, no setpoint

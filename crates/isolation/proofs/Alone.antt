@@ -1,25 +1,26 @@
--- A channel after an allowed list is as it would be alone, in a good world; and so is what a query answers that is lent its buffers. Assumes nothing.
+-- A channel after an allowed list is as it would be alone, in a good world, also before and after a call in the list; and so is what a query answers that
+-- is lent its buffers. Assumes nothing.
 use Prim.Native.Nat.{ℕ, _*_}
-use mathlib.Core.Path.{_≡_, ap, ap₂, _∙_}
+use mathlib.Core.Path.{_≡_, refl, sym, ap, ap₂, subst, _∙_}
 use mathlib.Core.Logic.{inr}
-use mathlib.Core.List.{List, [], _∷_}
+use mathlib.Core.List.{List, [], _∷_, _++_}
 use native.Mathlib.Omega.{arith}
 use lib.ListN.{length, take, drop, length-take, length-drop}
 use Rattle.channel_core.specs.Answers as ans
-use Rattle.channel.specs.OneChannel.{OneChannel, response, transitions}
+use Rattle.channel.specs.OneChannel.{OneChannel, ChannelCall, transition, response, transitions}
 use Rattle.channel.specs.OneChannel as to
-use Rattle.histories.proofs.Depths.{depths-kept}
+use Rattle.histories.proofs.Depths.{depths-step, depths-kept}
 use Rattle.board_state.specs.Parts.{own}
 use Rattle.board.specs.Answers.{one}
 use Rattle.board.specs.Calls.{openAnswer}
 use Rattle.board.specs.Worlds.{World}
 use Rattle.isolation.specs.Calls.{query, lentFrom, queryLending, first, second, Item, answer, ownBuffers, step, Allowed, worldAfter, opening}
-use Rattle.isolation.specs.Feeding.{fed, view}
+use Rattle.isolation.specs.Feeding.{feeds, fed, view}
 use Rattle.isolation.specs.Isolation.{oneChannelAt}
 use Rattle.isolation.proofs.Parts.{Number, own-length}
 use Rattle.isolation.proofs.Worlds.{Good, parted-reads}
 use Rattle.isolation.proofs.Observing.{observe-query}
-use Rattle.isolation.proofs.Isolation.{isolation, good-step, good-opening}
+use Rattle.isolation.proofs.Isolation.{along, isolation, good-step, good-opening}
 
 pub good-after : (w : World) (xs : List Item) → Good w → Allowed w xs → Good (worldAfter w xs)
 good-after w [] g a = g
@@ -41,6 +42,62 @@ alone-after n m s r opens c h xs a =
       same = isolation n m s r opens c (h .low) (h .high) xs a .ends;
       depth = depths-kept (oneChannelAt c n m s r) (fed c xs) .1;
     }
+
+-- ---- A call in the list, with what comes before and after it
+
+world-append : (w : World) (xs ys : List Item) → worldAfter w (xs ++ ys) ≡ worldAfter (worldAfter w xs) ys
+world-append w [] ys = refl
+world-append w (i ∷ xs) ys = world-append (step w i) xs ys
+
+allowed-append : (w : World) (xs ys : List Item) → Allowed w (xs ++ ys) → Allowed w xs × Allowed (worldAfter w xs) ys
+allowed-append w [] ys a = (tt, a)
+allowed-append w (i ∷ xs) ys a = let b = allowed-append (step w i) xs ys (a .1) in ((a .0, b .0), b .1)
+
+pub allowed-more : (w : World) (xs ys : List Item) → Allowed w xs → Allowed (worldAfter w xs) ys → Allowed w (xs ++ ys)
+allowed-more w [] ys a b = b
+allowed-more w (i ∷ xs) ys a b = (a .0, allowed-more (step w i) xs ys (a .1) b)
+
+-- the worlds before a call, after it, and at the end of the list; alone, channel c is `o` before it and is fed `k` of it, then `ks`
+pub record Called (c m : ℕ) (before after last : World) (o : OneChannel) (k : ChannelCall) (ks : List ChannelCall) : Type 0 where
+  pub at-call : AsAlone c m before o
+  pub called : AsAlone c m after (transition o k)
+  pub at-last : AsAlone c m last (transitions (transition o k) ks)
+
+module _
+    (n m : ℕ) (s r : List ℕ) (opens : openAnswer n m (length s) (length r) ≡ ans.done) (c : ℕ) (h : Number c)
+    (before : List Item) (i : Item) (later : List Item) (a : Allowed (opening n m s r) (before ++ (i ∷ later)))
+    (k : ChannelCall) (fed-call : feeds c i ≡ k ∷ [])
+  where
+    abbrev w : World
+    w = worldAfter (opening n m s r) before
+
+    abbrev o : OneChannel
+    o = transitions (oneChannelAt c n m s r) (fed c before)
+
+    pub called-after : Called c m w (step w i) (worldAfter (opening n m s r) (before ++ (i ∷ later))) o k (fed c later)
+    called-after =
+        let cut = allowed-append (opening n m s r) before (i ∷ later) a in
+        let x = alone-after n m s r opens c h before (cut .0) in
+        let y : AsAlone c m (step w i) (transition o k) =
+        record {
+          good = good-step w (x .good) i (cut .1 .0);
+          same =
+              along c h (i ∷ []) w (x .good) (cut .1 .0, tt) .ends ∙ ap (λ (ks : List ChannelCall). transitions (view c w) (ks ++ [])) fed-call
+              ∙ ap (λ (p : OneChannel). transition p k) (x .same);
+          depth = depths-step o k .1 ∙ x .depth;
+        }
+        in
+        record {
+          at-call = x;
+          called = y;
+          at-last =
+              subst (λ (p : World). AsAlone c m p (transitions (transition o k) (fed c later))) (sym (world-append (opening n m s r) before (i ∷ later)))
+              (record {
+                good = good-after (step w i) later (y .good) (cut .1 .1);
+                same = along c h later (step w i) (y .good) (cut .1 .1) .ends ∙ ap (λ (p : OneChannel). transitions p (fed c later)) (y .same);
+                depth = depths-kept (transition o k) (fed c later) .1 ∙ y .depth;
+              });
+        }
 
 -- ---- Queries
 

@@ -30,17 +30,7 @@ use Rattle.isolation.specs.Isolation.{oneChannelAt, EndWord, EndWordStan
 use Rattle.isolation.proofs.Parts.{Number}
 use Rattle.isolation.proofs.Isolation.{along, good-step, good-opening, open-fits, open-own}
 use Rattle.isolation.proofs.Shown.{register-shown}
-use Rattle.isolation.proofs.Alone.{good-after, AsAlone, alone-after, query-alone}
-
--- ---- A list cut in two
-
-world-append : (w : World) (xs ys : List Item) → worldAfter w (xs ++ ys) ≡ worldAfter (worldAfter w xs) ys
-world-append w [] ys = refl
-world-append w (i ∷ xs) ys = world-append (step w i) xs ys
-
-allowed-append : (w : World) (xs ys : List Item) → Allowed w (xs ++ ys) → Allowed w xs × Allowed (worldAfter w xs) ys
-allowed-append w [] ys a = (tt, a)
-allowed-append w (i ∷ xs) ys a = let b = allowed-append (step w i) xs ys (a .1) in ((a .0, b .0), b .1)
+use Rattle.isolation.proofs.Alone.{good-after, allowed-more, AsAlone, alone-after, called-after, query-alone}
 
 -- ---- A word of a channel's readback buffer, in the memory
 
@@ -100,67 +90,21 @@ end-word-stands n m s r opens c low high xs a retired =
 
 -- ---- A Group End, and what comes after it
 
-module _
-    (n m : ℕ) (s r : List ℕ) (opens : openAnswer n m (length s) (length r) ≡ ans.done) (c : ℕ) (h : Number c)
-    (before : List Item) (groupEnd : Item) (later : List Item) (a : Allowed (opening n m s r) (before ++ (groupEnd ∷ later)))
-    (k : ChannelCall) (fed-end : feeds c groupEnd ≡ k ∷ [])
-  where
-    abbrev o : OneChannel
-    o = transitions (oneChannelAt c n m s r) (fed c before)
-
-    abbrev w : World
-    w = worldAfter (opening n m s r) before
-
-    cut : Allowed (opening n m s r) before × Allowed w (groupEnd ∷ later)
-    cut = allowed-append (opening n m s r) before (groupEnd ∷ later) a
-
-    -- channel c before the Group End, after it, and at the end of the list
-    before-end : AsAlone c m w o
-    before-end = alone-after n m s r opens c h before (cut .0)
-
-    ended : AsAlone c m (step w groupEnd) (transition o k)
-    ended =
-        record {
-          good = good-step w (before-end .good) groupEnd (cut .1 .0);
-          same =
-              along c h (groupEnd ∷ []) w (before-end .good) (cut .1 .0, tt) .ends
-              ∙ ap (λ (ks : List ChannelCall). transitions (view c w) (ks ++ [])) fed-end
-              ∙ ap (λ (x : OneChannel). transition x k) (before-end .same);
-          depth = depths-step o k .1 ∙ before-end .depth;
-        }
-
-    at-last : AsAlone c m (worldAfter (opening n m s r) (before ++ (groupEnd ∷ later))) (transitions (transition o k) (fed c later))
-    at-last =
-        subst (λ (x : World). AsAlone c m x (transitions (transition o k) (fed c later)))
-        (sym (world-append (opening n m s r) before (groupEnd ∷ later)))
-        (record {
-          good = good-after (step w groupEnd) later (ended .good) (cut .1 .1);
-          same = along c h later (step w groupEnd) (ended .good) (cut .1 .1) .ends ∙ ap (λ (x : OneChannel). transitions x (fed c later)) (ended .same);
-          depth = depths-kept (transition o k) (fed c later) .1 ∙ ended .depth;
-        })
-
-    abbrev second-retires : Bool
-    second-retires = secondActiveOver n m (own s (n * 16) c) (own r (m * 2) c) (fed c before)
-
-    stays : endsGroup (entry (view c w) k) ≡ true → StaysRetired second-retires (history (view c (step w groupEnd)) (fed c later))
-        → EndWord c m (step w groupEnd) (worldAfter (opening n m s r) (before ++ (groupEnd ∷ later)))
-    stays ends retired =
-        let f = open-fits n m s r opens in
-        found-alone c m h (step w groupEnd) (worldAfter (opening n m s r) (before ++ (groupEnd ∷ later))) (transition o k)
-        (transitions (transition o k) (fed c later)) ended at-last
-        (stays-alone n m (own s (n * 16) c) (own r (m * 2) c) (f .1) (open-own n m s r opens c h .1) (fed c before) k (fed c later)
-        (subst (λ (x : OneChannel). endsGroup (entry x k) ≡ true) (before-end .same) ends)
-        (subst (λ (x : OneChannel). StaysRetired second-retires (history x (fed c later))) (ended .same) retired))
-
 pub end-word-stays : EndWordStays
 end-word-stays n m s r opens c low high before groupEnd later a k fed-end ends retired =
-    stays n m s r opens c (record { low = low; high = high }) before groupEnd later a k fed-end ends retired
+    let h : Number c = record { low = low; high = high } in
+    let f = open-fits n m s r opens in
+    let w = worldAfter (opening n m s r) before in
+    let o = transitions (oneChannelAt c n m s r) (fed c before) in
+    let x = called-after n m s r opens c h before groupEnd later a k fed-end in
+    let second = secondActiveOver n m (own s (n * 16) c) (own r (m * 2) c) (fed c before) in
+    found-alone c m h (step w groupEnd) (worldAfter (opening n m s r) (before ++ (groupEnd ∷ later))) (transition o k)
+    (transitions (transition o k) (fed c later)) (x .called) (x .at-last)
+    (stays-alone n m (own s (n * 16) c) (own r (m * 2) c) (f .1) (open-own n m s r opens c h .1) (fed c before) k (fed c later)
+    (subst (λ (x : OneChannel). endsGroup (entry x k) ≡ true) (x .at-call .same) ends)
+    (subst (λ (x : OneChannel). StaysRetired second (history x (fed c later))) (x .called .same) retired))
 
 -- ---- There are such Group Ends
-
-allowed-more : (w : World) (xs ys : List Item) → Allowed w xs → Allowed (worldAfter w xs) ys → Allowed w (xs ++ ys)
-allowed-more w [] ys a b = b
-allowed-more w (i ∷ xs) ys a b = (a .0, allowed-more (step w i) xs ys (a .1) b)
 
 pub group-end-accepted : GroupEndAccepted
 unfolding response to.answer

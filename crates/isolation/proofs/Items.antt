@@ -11,16 +11,18 @@ use Rattle.address_map.specs.Addresses.{Named, named, main, channel, nothing}
 use Rattle.channel_core.specs.Answers.{Answer, isRefusal}
 use Rattle.channel.specs.OneChannel.{Query, ChannelCall, refusalOf, effect, transition, response, transitions, responses}
 use Rattle.channel.specs.OneChannel as to
+use Rattle.board_channels.specs.Calls as channels
+use Rattle.board_downloads.specs.Calls as downloads
 use Rattle.board.specs.Answers.{BoardAnswer}
 use Rattle.board.specs.Worlds.{World}
-use Rattle.isolation.specs.Calls.{Call, writeRegister, readRegister, writeSetpoint, arm, disarm, reply, query, tick, event, changeUser, interruptLevel, Lent, first, second, Item, answer, after, refused, given, step, Fits}
+use Rattle.isolation.specs.Calls.{Call, writeRegister, readRegister, writeSetpoint, arm, disarm, openDownload, reply, query, tick, event, changeUser, interruptLevel, Lent, first, second, Item, answer, after, refused, given, step, Fits}
 use Rattle.isolation.specs.Feeding.{only, feeds, answerFor, shared, sharedRead, observe, view}
 use Rattle.isolation.proofs.Parts.{Number}
 use Rattle.isolation.proofs.One.{still}
 use Rattle.isolation.proofs.Worlds.{Good, either, step-refused, step-given, plain, plain-query}
-use Rattle.isolation.proofs.Views.{view-write, view-read, view-setpoint, view-armed, view-reply, view-query, view-tick, view-event, view-user, view-write-main, view-read-main}
-use Rattle.isolation.proofs.Others.{other-write, other-read, other-setpoint, other-armed, other-reply, nothing-write, nothing-read}
-use Rattle.isolation.proofs.Observing.{answer-refused, shared-refused, sharedRead-refused, observe-write, observe-read, observe-setpoint, arm-done, observe-reply, observe-event, observe-user, observe-write-main, observe-read-main, observe-query, observe-tick}
+use Rattle.isolation.proofs.Views.{view-write, view-read, view-setpoint, view-changed, view-reply, view-query, view-tick, view-event, view-user, view-write-main, view-read-main}
+use Rattle.isolation.proofs.Others.{other-write, other-read, other-setpoint, other-changed, other-reply, nothing-write, nothing-read}
+use Rattle.isolation.proofs.Observing.{answer-refused, shared-refused, sharedRead-refused, observe-write, observe-read, observe-setpoint, arm-done, observe-opening, observe-reply, observe-event, observe-user, observe-write-main, observe-read-main, observe-query, observe-tick}
 
 abbrev at : Call → Lent → Item
 at x l = record { call = x; lent = l }
@@ -139,16 +141,22 @@ module _ (w : World) (g : Good w) (c : ℕ) (h : Number c) (l : Lent) where
       (λ d ne. other-setpoint w c h d ne u b i y) d
 
   item-arm : (d : ℕ) → Fits w (at (arm d) l) → Holds c w (at (arm d) l)
-  unfolding answer after transition response refusalOf effect to.answer
+  unfolding answer after transition response refusalOf effect to.answer channels.setArmed
   item-arm =
-      by-number w c l arm to.arm (λ d. refl) (λ d s. refl) (λ f. arm-done w c h) (λ q. view-armed w g c h true)
-      (λ d ne. other-armed w c h d ne true)
+      by-number w c l arm to.arm (λ d. refl) (λ d s. refl) (λ f. arm-done w c h) (λ q. view-changed w g c h _)
+      (λ d ne. other-changed w c h d ne _)
 
   item-disarm : (d : ℕ) → Fits w (at (disarm d) l) → Holds c w (at (disarm d) l)
-  unfolding answer after transition response refusalOf effect to.answer
+  unfolding answer after transition response refusalOf effect to.answer channels.setArmed
   item-disarm =
-      by-number w c l disarm to.disarm (λ d. refl) (λ d s. refl) (λ f. arm-done w c h) (λ q. view-armed w g c h false)
-      (λ d ne. other-armed w c h d ne false)
+      by-number w c l disarm to.disarm (λ d. refl) (λ d s. refl) (λ f. arm-done w c h) (λ q. view-changed w g c h _)
+      (λ d ne. other-changed w c h d ne _)
+
+  item-opening : (d : ℕ) → Fits w (at (openDownload d) l) → Holds c w (at (openDownload d) l)
+  unfolding after transition refusalOf effect downloads.openedBoard
+  item-opening =
+      by-number w c l openDownload to.openDownload (λ d. refl) (λ d s. refl) (λ f. observe-opening w c h l) (λ q. view-changed w g c h _)
+      (λ d ne. other-changed w c h d ne _)
 
   item-reply : (d y : ℕ) → Fits w (at (reply d y) l) → Holds c w (at (reply d y) l)
   item-reply d y =
@@ -192,6 +200,7 @@ module _ (w : World) (g : Good w) (c : ℕ) (h : Number c) (l : Lent) where
   item (writeSetpoint d u b i y) f = item-setpoint d u b i y f
   item (arm d) f = item-arm d f
   item (disarm d) f = item-disarm d f
+  item (openDownload d) f = item-opening d f
   item (reply d y) f = item-reply d y f
   item (query d q) f = item-query d q f
   item tick f = item-tick f

@@ -18,3 +18,4 @@ pub mod Alone
 pub mod EndWords
 pub mod Marks
 pub mod Readings
+pub mod Downloads

@@ -14,7 +14,8 @@ use Rattle.channel_core.specs.Answers.{Answer, isRefusal, unless}
 use Rattle.channel_core.specs.Answers as ans
 use Rattle.channel_registers.specs.Calls as channel-registers
 use Rattle.channel.specs.Calls as chn
-use Rattle.channel.specs.OneChannel.{Query, response, refusalOf, answer, retiredOf, userRefusal, mainAnswer}
+use Rattle.channel.specs.Downloads as download
+use Rattle.channel.specs.OneChannel.{Query, response, refusalOf, answer, retiredOf, portionIn, userRefusal, mainAnswer}
 use Rattle.channel.specs.OneChannel as to
 use Rattle.channel.proofs.Cases.{clash, either}
 use Rattle.board_state.specs.State.{channelAt}
@@ -24,10 +25,13 @@ use Rattle.board_state.specs.Checks.{sizeMismatch, setpointsFit, readbacksFit}
 use Rattle.board.specs.Calls.{tickFrame}
 use Rattle.board.specs.Calls as board
 use Rattle.board_channels.specs.Calls as channels
+use Rattle.board_channels.proofs.RetiredPart.{same-refusal}
+use Rattle.board_downloads.specs.Calls as downloads
+use Rattle.board_downloads.proofs.Portions as portion
 use Rattle.board_readings.specs.Calls as readings
 use Rattle.board_registers.specs.Calls as registers
 use Rattle.board.specs.Worlds.{World}
-use Rattle.isolation.specs.Calls.{writeRegister, readRegister, writeSetpoint, reply, query, tick, event, changeUser, Lent, first, second, refused, ownBuffers, given}
+use Rattle.isolation.specs.Calls.{writeRegister, readRegister, writeSetpoint, openDownload, reply, query, tick, event, changeUser, Lent, first, second, refused, ownBuffers, given}
 use Rattle.isolation.specs.Calls as wld
 use Rattle.isolation.specs.Feeding.{answerFor, shared, sharedRead, view}
 use Rattle.isolation.proofs.Parts.{Number}
@@ -72,6 +76,10 @@ module _ (w : World) (c : ℕ) (h : Number c) where
       → answerFor c (wld.answer (w .board) (writeSetpoint c u f i x) l) ≡ response (view c w) (to.writeSetpoint (length (first l)) u f i x)
   unfolding wld.answer channels.setpointAnswer
   observe-setpoint u f i x l = rw (in-range c h) (sym (response-setpoint (view c w) (length (first l)) u f i x))
+
+  pub observe-opening : (l : Lent) → answerFor c (wld.answer (w .board) (openDownload c) l) ≡ response (view c w) to.openDownload
+  unfolding wld.answer downloads.openingAnswer response refusalOf answer
+  observe-opening l = rw (in-range c h)
 
   -- arm and disarm
   pub arm-done : channels.armAnswer c ≡ ans.done
@@ -127,31 +135,54 @@ module _ (w : World) (c : ℕ) (h : Number c) where
 
   -- ---- Calls whose answer goes by the words that they are lent: refused, or lent the memory as left
 
-  -- the answer of the retired call or of its twin, which is of the part what `tell` tells: on the board, and by the one-channel definition
-  abbrev onBoard : (List ℕ → Answer) → Lent → Answer
-  onBoard tell l =
-      unless (channels.retiredRefusal (w .board) c (length (first l)) (length (second l))) (tell (channels.retiredWords (w .board) c (first l) (second l)))
-
-  abbrev byItself : (List ℕ → Answer) → Lent → Answer
-  byItself tell l = unless (chn.retiredRefusal (w .board .m) (length (first l)) (length (second l))) (tell (retiredOf (view c w)))
-
-  retired-same : (tell : List ℕ → Answer) → ((s : List ℕ) → isRefusal (tell s) ≡ false) → (l : Lent)
-      → ((isRefusal (onBoard tell l) ≡ true) ⊎ (l ≡ ownBuffers w c)) → onBoard tell l ≡ byItself tell l
-  unfolding channels.retiredWords chn.retiredWords retiredOf
-  retired-same tell plain l f = go (eqb (chn.retiredRefusal (w .board .m) (length (first l)) (length (second l))) 0) refl f
+  -- a call of which the board and the one-channel definition tell a part, by `tell`, where neither refuses: the same part, where the channel's own buffers
+  -- are lent
+  part-same : (onBoard byItself : ℕ) → onBoard ≡ byItself → (there here : List ℕ) (l : Lent)
+      → (eqb byItself 0 ≡ true → l ≡ ownBuffers w c → there ≡ here)
+      → (tell : List ℕ → Answer) → ((s : List ℕ) → isRefusal (tell s) ≡ false)
+      → ((isRefusal (unless onBoard (tell there)) ≡ true) ⊎ (l ≡ ownBuffers w c)) → unless onBoard (tell there) ≡ unless byItself (tell here)
+  part-same onBoard byItself same there here l agree tell plain =
+      subst
+      (λ (r : ℕ). ((isRefusal (unless r (tell there)) ≡ true) ⊎ (l ≡ ownBuffers w c)) → unless r (tell there) ≡ unless byItself (tell here))
+      (sym same) (go (eqb byItself 0) refl)
     where
-      go : (t : Bool) → eqb (chn.retiredRefusal (w .board .m) (length (first l)) (length (second l))) 0 ≡ t
-          → ((isRefusal (onBoard tell l) ≡ true) ⊎ (l ≡ ownBuffers w c)) → onBoard tell l ≡ byItself tell l
-      go true e (inl r) = clash (sym (plain _) ∙ (rw (e, in-range c h) at r))
-      go true e (inr q) = rw (e, in-range c h, q)
-      go false e f = rw e (rw e)
+      go : (t : Bool) → eqb byItself 0 ≡ t → ((isRefusal (unless byItself (tell there)) ≡ true) ⊎ (l ≡ ownBuffers w c))
+          → unless byItself (tell there) ≡ unless byItself (tell here)
+      go true e (inl r) = clash (sym (plain there) ∙ (rw e at r))
+      go true e (inr q) = rw e (ap tell (agree e q))
+      go false e f = rw e
+
+  -- the retired call, and its twin
+  retired-same : (l : Lent) (tell : List ℕ → Answer) → ((s : List ℕ) → isRefusal (tell s) ≡ false)
+      → let k = length (first l) in
+      let j = length (second l) in
+      let answered = unless (channels.retiredRefusal (w .board) c k j) (tell (channels.retiredWords (w .board) c (first l) (second l))) in
+      ((isRefusal answered ≡ true) ⊎ (l ≡ ownBuffers w c)) → answered ≡ unless (chn.retiredRefusal (w .board .m) k j) (tell (retiredOf (view c w)))
+  unfolding channels.retiredWords chn.retiredWords retiredOf
+  retired-same l =
+      part-same _ _ (same-refusal (w .board) c (length (first l)) (length (second l)) (in-range c h)) _ (retiredOf (view c w)) l
+      (λ e q. rw (e, in-range c h, q))
+
+  -- a portion of the download, and its twin
+  portion-same : (i n : ℕ) (l : Lent) (tell : List ℕ → Answer) → ((s : List ℕ) → isRefusal (tell s) ≡ false)
+      → let k = length (first l) in
+      let j = length (second l) in
+      let answered = unless (downloads.portionRefusal (w .board) c i n k j) (tell (downloads.portionWords (w .board) c i n (first l) (second l))) in
+      ((isRefusal answered ≡ true) ⊎ (l ≡ ownBuffers w c))
+      → answered ≡ unless (download.portionRefusal (channelAt (w .board) c) (w .board .m) i n k j) (tell (portionIn (view c w) i n))
+  unfolding downloads.portionWords download.portionWords portionIn
+  portion-same i n l =
+      part-same _ _ (portion.same-refusal (w .board) c i n (length (first l)) (length (second l)) (in-range c h)) _ (portionIn (view c w) i n) l
+      (λ e q. rw (e, in-range c h, q))
 
   pub observe-query : (q : Query) (l : Lent) → ((refused (w .board) (query c q) l ≡ true) ⊎ (l ≡ given w (query c q)))
       → answerFor c (wld.answer (w .board) (query c q) l) ≡ response (view c w) (to.query q (length (first l)) (length (second l)))
-  unfolding wld.answer channels.retiredAnswer channels.retiredLength readings.readingsAnswer response refusalOf answer
-  observe-query to.retired l f = retired-same ans.part (λ s. refl) l f
-  observe-query to.retiredLength l f = retired-same (λ s. ans.partLength (length s)) (λ s. refl) l f
+  unfolding wld.answer channels.retiredAnswer channels.retiredLength readings.readingsAnswer downloads.portionAnswer downloads.portionLength response refusalOf answer
+  observe-query to.retired l f = retired-same l ans.part (λ s. refl) f
+  observe-query to.retiredLength l f = retired-same l (λ s. ans.partLength (length s)) (λ s. refl) f
   observe-query to.readings l f = rw (in-range c h)
+  observe-query (to.portion i n) l f = portion-same i n l ans.part (λ s. refl) f
+  observe-query (to.portionLength i n) l f = portion-same i n l (λ s. ans.partLength (length s)) (λ s. refl) f
 
   pub observe-tick : Good w → (l : Lent) → ((refused (w .board) tick l ≡ true) ⊎ (l ≡ given w tick))
       → answerFor c (wld.answer (w .board) tick l) ≡ response (view c w) (to.tick (length (first l)))

@@ -17,9 +17,9 @@ use Rattle.channel_replies.specs.Replying.{replyAnswerAs, replyAs, replyWordsAs
 use Rattle.channel_replies.specs.Replying as replies
 use Rattle.channel_registers.specs.Calls.{registerRefusal}
 use Rattle.channel_registers.specs.Calls as channel-registers
-use Rattle.channel.specs.Calls.{setpointRefusal}
+use Rattle.channel.specs.Calls.{then, setpointRefusal}
 use Rattle.channel.specs.Calls as chn
-use Rattle.channel.specs.OneChannel.{OneChannel, Query, ChannelCall, withChannel, withSetpoints, withReadbacks, refusalOf, effect, answer, transition, response, transitions, responses, then, lengthRefusal, framingRefusal}
+use Rattle.channel.specs.OneChannel.{OneChannel, Query, ChannelCall, withChannel, withSetpoints, withReadbacks, refusalOf, effect, answer, transition, response, transitions, responses, lengthRefusal, framingRefusal}
 use Rattle.channel.specs.OneChannel as to
 use Rattle.channel.proofs.Cases.{clash, either}
 use Rattle.board_state.specs.Checks.{sizeMismatch}
@@ -41,6 +41,7 @@ module _ (o : OneChannel) where
   effect-still (to.writeSetpoint lent u f i x) h = clash h
   effect-still to.arm h = clash h
   effect-still to.disarm h = clash h
+  effect-still to.openDownload h = clash h
   effect-still (to.reply lent f) h =
       ap₂ (withBoth o) (reply-still (o .channel) (o .m) f h) (reply-words (o .channel) (o .readbacks) (o .m) (o .user) f h)
   effect-still (to.query q k j) h = refl

@@ -9,6 +9,7 @@ use lib.ListN.{length}
 use lib.Dec.{eqb}
 use borrow.Author.Tests.{eqb-true, eq-eqb, ne-eqb}
 use Rattle.address_map.specs.Addresses.{Named, named, main, channel, nothing}
+use Rattle.channel_core.specs.declared.Channel.{Channel}
 use Rattle.channel_replies.specs.Replying as replies
 use Rattle.channel_registers.specs.Calls as channel-registers
 use Rattle.channel.specs.Calls as chn
@@ -17,14 +18,15 @@ use Rattle.channel.specs.OneChannel as to
 use Rattle.channel.proofs.Cases.{clash, by-test}
 use Rattle.histories.proofs.Lengths.{written-length, setpoint-length, reply-length}
 use Rattle.board_state.specs.declared.Board.{Board}
-use Rattle.board_state.specs.State.{channelAt}
+use Rattle.board_state.specs.State.{channelAt, withChannelAt}
 use Rattle.board_state.specs.Parts.{own}
 use Rattle.board_state.specs.Checks.{noChannel, readbacksFit}
 use Rattle.board_registers.specs.Calls.{writeBoardAt, readBoardAt}
 use Rattle.board_channels.specs.Calls as channels
+use Rattle.board_downloads.specs.Calls as downloads
 use Rattle.board_registers.specs.Calls as registers
 use Rattle.board.specs.Worlds.{World}
-use Rattle.isolation.specs.Calls.{Call, writeRegister, readRegister, writeSetpoint, arm, disarm, reply, query, tick, event, changeUser, interruptLevel, first, second, withBoard, after, wordsAfter, refused, given, step}
+use Rattle.isolation.specs.Calls.{Call, writeRegister, readRegister, writeSetpoint, arm, disarm, openDownload, reply, query, tick, event, changeUser, interruptLevel, first, second, withBoard, after, wordsAfter, refused, given, step}
 use Rattle.isolation.specs.Calls as wld
 use Rattle.isolation.specs.Feeding.{only, writeScope, readScope, namesIn, names, feedWrite, feedRead, feed, view}
 use Rattle.isolation.specs.Isolation.{UnfedUntouched, OthersUntouched}
@@ -68,11 +70,10 @@ module _ (w : World) (c : ℕ) (h : Number c) (d : ℕ) (ne : c ≡ d → ⊥) w
       (λ (p : List ℕ). chn.setpointWords (channelAt (w .board) d) p (w .board .n) u f i x) (parted-sets (w .board))
       (λ p. setpoint-length (channelAt (w .board) d) p (w .board .n) u f i x) c h ne)
 
-  pub other-armed : (on : Bool) → view c (withBoard w (channels.setArmed (w .board) d on)) ≡ view c w
-  unfolding channels.setArmed
-  other-armed on =
+  pub other-changed : (changed : Channel) → view c (withBoard w (cond (noChannel d) (w .board) (withChannelAt (w .board) d changed))) ≡ view c w
+  other-changed changed =
       by-test (λ (b : Board). view c (withBoard w b) ≡ view c w) (noChannel d) (λ t. refl)
-      (λ t. ap (withChannel (view c w)) (withChannelAt-other (w .board) d c _ (range-in d t) h ne))
+      (λ t. ap (withChannel (view c w)) (withChannelAt-other (w .board) d c changed (range-in d t) h ne))
 
   pub other-reply : (f : ℕ) → view c (plain w (reply d f)) ≡ view c w
   unfolding after wordsAfter channels.replyBoard
@@ -129,6 +130,7 @@ module _ (c d k j : ℕ) (ne : c ≡ d → ⊥) where
   naming-feeds (writeSetpoint i u f y x) t = away i (to.writeSetpoint k u f y x) t
   naming-feeds (arm i) t = away i to.arm t
   naming-feeds (disarm i) t = away i to.disarm t
+  naming-feeds (openDownload i) t = away i to.openDownload t
   naming-feeds (reply i f) t = away i (to.reply k f) t
   naming-feeds (query i q) t = away i (to.query q k j) t
   naming-feeds tick t = clash t
@@ -146,7 +148,7 @@ fed-none d c a e p = fed-some {a = a} {l = []} (rw (eq-eqb d c (sym p)) at e)
 
 module _ (w : World) (c : ℕ) (h : Number c) (k j : ℕ) where
   unfed : (x : Call) → feed c x k j ≡ [] → view c (plain w x) ≡ view c w
-  unfolding after
+  unfolding after channels.setArmed downloads.openedBoard
   unfed (writeRegister a v) t = go (named a) refl
     where
       go : (n : Named) → named a ≡ n → view c (plain w (writeRegister a v)) ≡ view c w
@@ -161,8 +163,9 @@ module _ (w : World) (c : ℕ) (h : Number c) (k j : ℕ) where
       go nothing e = nothing-read w c a e
   unfed (writeSetpoint d u f i x) t =
       other-setpoint w c h d (fed-none d c (to.writeSetpoint k u f i x) t) u f i x
-  unfed (arm d) t = other-armed w c h d (fed-none d c to.arm t) true
-  unfed (disarm d) t = other-armed w c h d (fed-none d c to.disarm t) false
+  unfed (arm d) t = other-changed w c h d (fed-none d c to.arm t) _
+  unfed (disarm d) t = other-changed w c h d (fed-none d c to.disarm t) _
+  unfed (openDownload d) t = other-changed w c h d (fed-none d c to.openDownload t) _
   unfed (reply d f) t = other-reply w c h d (fed-none d c (to.reply k f) t) f
   unfed (query d q) t = ap (view c) (plain-query w d q)
   unfed tick t = fed-some t

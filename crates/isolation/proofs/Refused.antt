@@ -1,7 +1,7 @@
 -- A refused call changes no state and no lent word, on any board and lent anything. Assumes nothing.
 use Prim.Native.Nat.{ℕ}
 use mathlib.Core.Path.{_≡_, refl, sym, ap, _∙_}
-use mathlib.Core.Bool.{Bool, true, false}
+use mathlib.Core.Bool.{Bool, true, false, cond}
 use mathlib.Core.List.{List}
 use lib.ListN.{length}
 use Rattle.frame.specs.Frames.{Reading, read}
@@ -10,7 +10,7 @@ use Rattle.address_map.specs.Addresses.{Named, named, main, channel, nothing}
 use Rattle.register_map.specs.AccessRule.{channelAccess, mainAccess}
 use Rattle.register_map.specs.AccessRefusals.{readRefusal, writeRefusal}
 use Rattle.channel_core.specs.declared.Channel.{Channel}
-use Rattle.channel_core.specs.Answers.{isRefusal}
+use Rattle.channel_core.specs.Answers.{Answer, isRefusal}
 use Rattle.channel_core.specs.Answers as ans
 use Rattle.channel_replies.specs.Replying.{replyAnswerAs, replyAs, replyWordsAs}
 use Rattle.channel_replies.specs.Replying as replies
@@ -18,6 +18,7 @@ use Rattle.channel_registers.specs.Calls.{registerRefusal}
 use Rattle.channel_registers.specs.Calls as channel-registers
 use Rattle.channel.specs.Calls.{setpointRefusal}
 use Rattle.channel.specs.Calls as chn
+use Rattle.channel.specs.Downloads.{openingAnswer}
 use Rattle.channel.specs.OneChannel.{userRefusal}
 use Rattle.channel.proofs.Cases.{clash, by-test}
 use Rattle.histories.proofs.Accepted.{received-accepted}
@@ -25,12 +26,13 @@ use Rattle.board_state.specs.declared.Board.{Board}
 use Rattle.board_state.specs.State.{channelAt, withChannelAt}
 use Rattle.board_state.specs.Main.{mainValue}
 use Rattle.board_state.specs.Parts.{own, withOwn}
-use Rattle.board_state.specs.Checks.{readbacksFit, setpointsFit, noChannel, readbackSize, setpointSize}
+use Rattle.board_state.specs.Checks.{outOfRange, readbacksFit, setpointsFit, noChannel, readbackSize, setpointSize}
 use Rattle.board_registers.specs.Calls.{writeBoardAt, writeAnswerAt, writeWordsAt, readBoardAt, readAnswerAt}
 use Rattle.board.specs.Calls as board
 use Rattle.board_channels.specs.Calls as channels
+use Rattle.board_downloads.specs.Calls as downloads
 use Rattle.board_registers.specs.Calls as registers
-use Rattle.isolation.specs.Calls.{Call, writeRegister, readRegister, writeSetpoint, arm, disarm, reply, query, tick, event, changeUser, interruptLevel, Lent, none, words, buffers, first, answer, after, wordsAfter, lentAfter, refused}
+use Rattle.isolation.specs.Calls.{Call, writeRegister, readRegister, writeSetpoint, arm, disarm, openDownload, reply, query, tick, event, changeUser, interruptLevel, Lent, none, words, buffers, first, answer, after, wordsAfter, lentAfter, refused}
 use Rattle.isolation.specs.Isolation.{RefusedChangesNothing}
 use Rattle.isolation.proofs.Parts.{own-same}
 use Rattle.isolation.proofs.Cases.{unless-refused, withChannelAt-own}
@@ -118,9 +120,10 @@ module _ (b : Board) where
       ∙ own-same s (setpointSize b) d))
       (λ t. refl)
 
-  armed-board : (d : ℕ) (on : Bool) → isRefusal (channels.armAnswer d) ≡ true → channels.setArmed b d on ≡ b
-  unfolding channels.armAnswer channels.setArmed
-  armed-board d on h = by-test (Is b) (noChannel d) (λ t. refl) (λ t. clash (rw t at h))
+  -- arm, disarm, the opening of a download: of a channel in range they answer what is no refusal
+  changed-board : (d : ℕ) (c : Channel) (a : Answer) → isRefusal a ≡ false → isRefusal (cond (noChannel d) outOfRange a) ≡ true
+      → cond (noChannel d) b (withChannelAt b d c) ≡ b
+  changed-board d c a plain h = by-test (Is b) (noChannel d) (λ t. refl) (λ t. clash (sym plain ∙ (rw t at h)))
 
   reply-board : (k d f : ℕ) → isRefusal (channels.replyAnswer b k d f) ≡ true → channels.replyBoard b k d f ≡ b
   unfolding channels.replyAnswer channels.replyBoard
@@ -159,12 +162,13 @@ module _ (b : Board) where
   -- ---- Every call
 
   refused-board : (x : Call) (l : Lent) → refused b x l ≡ true → after b x l ≡ b
-  unfolding answer after
+  unfolding answer after channels.armAnswer channels.setArmed downloads.openingAnswer downloads.openedBoard
   refused-board (writeRegister a v) l h = write-board (length (first l)) a v h
   refused-board (readRegister a) l h = read-board a h
   refused-board (writeSetpoint d u f i x) l h = refl
-  refused-board (arm d) l h = armed-board d true h
-  refused-board (disarm d) l h = armed-board d false h
+  refused-board (arm d) l h = changed-board d _ ans.done refl h
+  refused-board (disarm d) l h = changed-board d _ ans.done refl h
+  refused-board (openDownload d) l h = changed-board d _ (openingAnswer (channelAt b d)) refl h
   refused-board (reply d f) l h = reply-board (length (first l)) d f h
   refused-board (query d q) l h = refl
   refused-board tick l h = tick-board l h
@@ -179,6 +183,7 @@ module _ (b : Board) where
   refused-words (writeSetpoint d u f i x) s h = setpoint-all s d u f i x h
   refused-words (arm d) s h = refl
   refused-words (disarm d) s h = refl
+  refused-words (openDownload d) s h = refl
   refused-words (reply d f) s h = reply-all s d f h
   refused-words (query d q) s h = refl
   refused-words tick s h = refl

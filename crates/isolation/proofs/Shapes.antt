@@ -1,7 +1,7 @@
 -- Every call keeps the depths, the four channels and the lengths of both memories. Assumes nothing.
 use Prim.Native.Nat.{ℕ, _*_}
 use mathlib.Core.Path.{_≡_, refl, sym, ap, subst, _∙_}
-use mathlib.Core.Bool.{Bool, true, false}
+use mathlib.Core.Bool.{Bool, true, false, cond}
 use mathlib.Core.List.{List}
 use native.Mathlib.Omega.{arith}
 use lib.ListN.{length, length-set}
@@ -9,6 +9,7 @@ use lib.Dec.{eqb}
 use Rattle.address_map.specs.Addresses.{Named, named, main, channel, nothing}
 use Rattle.register_map.specs.AccessRule.{mainAccess}
 use Rattle.register_map.specs.AccessRefusals.{readRefusal, writeRefusal}
+use Rattle.channel_core.specs.declared.Channel.{Channel}
 use Rattle.channel_replies.specs.Replying as replies
 use Rattle.channel_registers.specs.Calls as channel-registers
 use Rattle.channel.specs.Calls as chn
@@ -16,16 +17,17 @@ use Rattle.channel.specs.OneChannel.{userRefusal}
 use Rattle.channel.proofs.Cases.{either}
 use Rattle.histories.proofs.Lengths.{SameLength, written-length, setpoint-length, reply-length}
 use Rattle.board_state.specs.declared.Board.{Board}
-use Rattle.board_state.specs.State.{channelAt}
+use Rattle.board_state.specs.State.{channelAt, withChannelAt}
 use Rattle.board_state.specs.Main.{mainWritten, mainRead, statusRead, takenAt}
 use Rattle.board_state.specs.Checks.{noChannel, setpointsFit, readbacksFit}
 use Rattle.board.specs.Calls.{eventBoards, eventBoardAt, changedAt}
 use Rattle.board_registers.specs.Calls.{writeBoardAt, readBoardAt}
 use Rattle.board.specs.Calls as board
 use Rattle.board_channels.specs.Calls as channels
+use Rattle.board_downloads.specs.Calls as downloads
 use Rattle.board_registers.specs.Calls as registers
 use Rattle.board.specs.Worlds.{World}
-use Rattle.isolation.specs.Calls.{Call, writeRegister, readRegister, writeSetpoint, arm, disarm, reply, query, tick, event, changeUser, interruptLevel, Lent, first, after, wordsAfter}
+use Rattle.isolation.specs.Calls.{Call, writeRegister, readRegister, writeSetpoint, arm, disarm, openDownload, reply, query, tick, event, changeUser, interruptLevel, Lent, first, after, wordsAfter}
 use Rattle.isolation.proofs.Cases.{named-number}
 use Rattle.isolation.proofs.Words.{over-length, setpoints-over, replies-over, writes-over}
 use Rattle.isolation.proofs.Worlds.{Good, plain, plain-query, parted-sets, parted-reads, full-reads}
@@ -58,21 +60,18 @@ module _ (b : Board) where
   read-at (channel d o) = record { n = refl; m = refl; channels = simp length-set }
   read-at nothing = same
 
-  armed : (d : ℕ) (on : Bool) → Shape b (channels.setArmed b d on)
-  unfolding channels.setArmed
-  armed d on = either (Shape b) (noChannel d) same (record { n = refl; m = refl; channels = simp length-set })
+  changed : (d : ℕ) (c : Channel) → Shape b (cond (noChannel d) b (withChannelAt b d c))
+  changed d c = either (Shape b) (noChannel d) same (record { n = refl; m = refl; channels = simp length-set })
 
   pub shape : (x : Call) (l : Lent) → Shape b (after b x l)
-  unfolding after registers.writeBoard registers.readBoard channels.replyBoard board.tickBoard board.eventBoard eventBoards eventBoardAt board.userBoard changedAt
+  unfolding after registers.writeBoard registers.readBoard channels.setArmed downloads.openedBoard channels.replyBoard board.tickBoard board.eventBoard eventBoards eventBoardAt board.userBoard changedAt
   shape (writeRegister a v) l = either (Shape b) (readbacksFit b (length (first l))) (write-at (named a) v) same
   shape (readRegister a) l = read-at (named a)
   shape (writeSetpoint d u f i x) l = same
-  shape (arm d) l = armed d true
-  shape (disarm d) l = armed d false
-  shape (reply d f) l =
-      either (Shape b) (readbacksFit b (length (first l)))
-      (either (Shape b) (noChannel d) same (record { n = refl; m = refl; channels = simp length-set }))
-      same
+  shape (arm d) l = changed d _
+  shape (disarm d) l = changed d _
+  shape (openDownload d) l = changed d _
+  shape (reply d f) l = either (Shape b) (readbacksFit b (length (first l))) (changed d _) same
   shape (query d q) l = same
   shape tick l =
       either (Shape b) (setpointsFit b (length (first l))) (record { n = refl; m = refl; channels = simp length-set }) same
@@ -136,6 +135,7 @@ module _ (w : World) (g : Good w) where
       good-by _ _ _ (shape (w .board) (writeSetpoint d u f i x) _) (setpoints-length (w .board) (w .setpoints) d u f i x) refl
   good-plain (arm d) = good-by _ _ _ (shape (w .board) (arm d) _) refl refl
   good-plain (disarm d) = good-by _ _ _ (shape (w .board) (disarm d) _) refl refl
+  good-plain (openDownload d) = good-by _ _ _ (shape (w .board) (openDownload d) _) refl refl
   good-plain (reply d f) =
       good-by _ _ _ (shape (w .board) (reply d f) _) refl (replies-length (w .board) (w .readbacks) d f)
   good-plain (query d q) = subst Good (sym (plain-query w d q)) g

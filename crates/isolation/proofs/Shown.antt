@@ -47,6 +47,7 @@ module _ (c : ℕ) (h : Number c) (w : World) where
         receiving = refl;
         tag = refl;
         tagged = refl;
+        download = refl;
         readings = readings-shown;
         interruptStatus = refl;
         pollingStatus = refl;

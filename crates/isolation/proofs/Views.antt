@@ -20,7 +20,8 @@ use Rattle.channel.specs.OneChannel as to
 use Rattle.channel.proofs.Cases.{either}
 use Rattle.histories.proofs.Lengths.{written-length, setpoint-length, reply-length}
 use Rattle.board_state.specs.declared.Board.{Board}
-use Rattle.board_state.specs.State.{channelAt}
+use Rattle.board_state.specs.State.{channelAt, withChannelAt}
+use Rattle.board_state.specs.Checks.{noChannel}
 use Rattle.board_state.specs.Main.{mainWritten, mainRead, statusRead, takenAt}
 use Rattle.board_state.specs.Parts.{own}
 use Rattle.board.specs.Calls.{tickChannel, changedAt}
@@ -69,10 +70,9 @@ module _ (w : World) (g : Good w) (c : ℕ) (h : Number c) where
       (λ p. setpoint-length (channelAt (w .board) c) p (w .board .n) u f i x) (g .sets) h)
       ∙ sym (transition-setpoint (view c w) (length (w .setpoints)) (full-sets w g) u f i x)
 
-  pub view-armed : (on : Bool)
-      → view c (withBoard w (channels.setArmed (w .board) c on)) ≡ withChannel (view c w) (chn.setArmed (channelAt (w .board) c) on)
-  unfolding channels.setArmed
-  view-armed on = rw (in-range c h) (ap (withChannel (view c w)) (withChannelAt-same (w .board) c _ (g .four) h))
+  -- arm, disarm and the opening of a download change the channel that they name to `changed`
+  pub view-changed : (changed : Channel) → view c (withBoard w (cond (noChannel c) (w .board) (withChannelAt (w .board) c changed))) ≡ withChannel (view c w) changed
+  view-changed changed = rw (in-range c h) (ap (withChannel (view c w)) (withChannelAt-same (w .board) c changed (g .four) h))
 
   pub view-reply : (f : ℕ) → view c (plain w (reply c f)) ≡ transition (view c w) (to.reply (length (w .readbacks)) f)
   unfolding after wordsAfter channels.replyBoard

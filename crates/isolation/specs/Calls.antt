@@ -8,7 +8,7 @@ use mathlib.Core.Bool.{Bool, true, cond}
 use lib.ListN.{length, take, drop}
 use Rattle.channel_core.specs.Answers.{Answer}
 use Rattle.channel_core.specs.Answers as ans
-use Rattle.channel.specs.OneChannel.{Query, retired, retiredLength, readings}
+use Rattle.channel.specs.OneChannel.{Query, retired, retiredLength, readings, portion, portionLength}
 use Rattle.board_state.specs.declared.Board.{Board}
 use Rattle.board_state.specs.Main.{levelOf}
 use Rattle.board_state.specs.Parts.{own}
@@ -16,17 +16,20 @@ use Rattle.board.specs.Worlds.{World, world}
 use Rattle.board.specs.Answers.{BoardAnswer, one, refuses}
 use Rattle.board.specs.Calls as board
 use Rattle.board_channels.specs.Calls as channels
+use Rattle.board_downloads.specs.Calls as downloads
 use Rattle.board_readings.specs.Calls.{readingsAnswer}
 use Rattle.board_registers.specs.Calls as registers
 
 -- "In the list stand the calls under Calls, the retired call's twin, and, from its request on, each call on the board that a later request adds": a call's
--- arguments alone. `query` are those that name a channel and change nothing in any state: retired readbacks and its twin, and card 7's readings
+-- arguments alone. `query` are those that name a channel and change nothing in any state: retired readbacks and its twin, card 7's readings, and
+-- card 8's portions and their twin
 pub data Call : Type 0 where
   writeRegister : (address value : ℕ) → Call
   readRegister : (address : ℕ) → Call
   writeSetpoint : (number user buffer index word : ℕ) → Call
   arm : (number : ℕ) → Call
   disarm : (number : ℕ) → Call
+  openDownload : (number : ℕ) → Call
   reply : (number frame : ℕ) → Call
   query : (number : ℕ) → Query → Call
   tick : Call
@@ -66,6 +69,8 @@ abbrev pub queryAnswerAt : Board → ℕ → Query → Lent → Answer
 queryAnswerAt b number retired l = channels.retiredAnswer b number (first l) (second l)
 queryAnswerAt b number retiredLength l = channels.retiredLength b number (first l) (second l)
 queryAnswerAt b number readings l = readingsAnswer b number
+queryAnswerAt b number (portion index size) l = downloads.portionAnswer b number index size (first l) (second l)
+queryAnswerAt b number (portionLength index size) l = downloads.portionLength b number index size (first l) (second l)
 
 unfoldable pub answer : Board → Call → Lent → BoardAnswer
 answer b (writeRegister address value) l = one (registers.writeAnswer b (length (first l)) address value)
@@ -74,6 +79,7 @@ answer b (writeSetpoint number user buffer index word) l =
     one (channels.setpointAnswer b (length (first l)) number user buffer index)
 answer b (arm number) l = one (channels.armAnswer number)
 answer b (disarm number) l = one (channels.armAnswer number)
+answer b (openDownload number) l = one (downloads.openingAnswer b number)
 answer b (reply number frame) l = one (channels.replyAnswer b (length (first l)) number frame)
 answer b (query number which) l = one (queryAnswerAt b number which l)
 answer b tick l = board.tickBoardAnswer b (first l)
@@ -87,6 +93,7 @@ after b (readRegister address) l = registers.readBoard b address
 after b (writeSetpoint number user buffer index word) l = b
 after b (arm number) l = channels.armBoard b number
 after b (disarm number) l = channels.disarmBoard b number
+after b (openDownload number) l = downloads.openedBoard b number
 after b (reply number frame) l = channels.replyBoard b (length (first l)) number frame
 after b (query number which) l = b
 after b tick l = board.tickBoard b (first l)
@@ -101,6 +108,7 @@ wordsAfter b (readRegister address) s = s
 wordsAfter b (writeSetpoint number user buffer index word) s = channels.setpointWords b s number user buffer index word
 wordsAfter b (arm number) s = s
 wordsAfter b (disarm number) s = s
+wordsAfter b (openDownload number) s = s
 wordsAfter b (reply number frame) s = channels.replyWords b s number frame
 wordsAfter b (query number which) s = s
 wordsAfter b tick s = s
@@ -131,6 +139,8 @@ abbrev pub queryLending : ℕ → Query → Lending
 queryLending number retired = lendsBuffers number
 queryLending number retiredLength = lendsBuffers number
 queryLending number readings = lendsNothing
+queryLending number (portion index size) = lendsBuffers number
+queryLending number (portionLength index size) = lendsBuffers number
 
 abbrev pub lending : Call → Lending
 lending (writeRegister address value) = lendsReadbacks
@@ -138,6 +148,7 @@ lending (readRegister address) = lendsNothing
 lending (writeSetpoint number user buffer index word) = lendsSetpoints
 lending (arm number) = lendsNothing
 lending (disarm number) = lendsNothing
+lending (openDownload number) = lendsNothing
 lending (reply number frame) = lendsReadbacks
 lending (query number which) = queryLending number which
 lending tick = lendsSetpoints

@@ -14,7 +14,7 @@ use Rattle.board_state.specs.State.{channelAt}
 use Rattle.board_state.specs.Parts.{own}
 use Rattle.board.specs.Answers.{BoardAnswer, one, each, ofFour}
 use Rattle.board.specs.Worlds.{World}
-use Rattle.isolation.specs.Calls.{Call, writeRegister, readRegister, writeSetpoint, arm, disarm, reply, query, tick, event, changeUser, interruptLevel, first, second, Item, answer, step}
+use Rattle.isolation.specs.Calls.{Call, writeRegister, readRegister, writeSetpoint, arm, disarm, openDownload, reply, query, tick, event, changeUser, interruptLevel, first, second, Item, answer, step}
 
 -- one, or none
 abbrev pub only : {A : Type 0} → Bool → A → List A
@@ -54,6 +54,7 @@ scope (readRegister address) = readScope (named address)
 scope (writeSetpoint number user buffer index word) = ofOne number
 scope (arm number) = ofOne number
 scope (disarm number) = ofOne number
+scope (openDownload number) = ofOne number
 scope (reply number frame) = ofOne number
 scope (query number which) = ofOne number
 scope tick = ofEach
@@ -93,6 +94,7 @@ feed c (writeSetpoint number user buffer index word) k j =
     only (eqb number c) (to.writeSetpoint k user buffer index word)
 feed c (arm number) k j = only (eqb number c) to.arm
 feed c (disarm number) k j = only (eqb number c) to.disarm
+feed c (openDownload number) k j = only (eqb number c) to.openDownload
 feed c (reply number frame) k j = only (eqb number c) (to.reply k frame)
 feed c (query number which) k j = only (eqb number c) (to.query which k j)
 feed c tick k j = to.tick k ∷ []

@@ -1,7 +1,7 @@
 -- Document 01, 'What holds it to this': demand 3, "each channel behaves as it would alone". The claim, and what stands beside it.
 -- Proofs: Isolation and FedTheSame in proofs/Isolation.antt, IsolationShown, MissingCounted and NotVacuous in Shown, DefaultsUnused and
--- OneFrameATick in Defaults, EndWordStays, EndWordStands and GroupEndAccepted in EndWords, MarksRetired in Marks, ReadingsTold in Readings, the others
--- in Refused and Others.
+-- OneFrameATick in Defaults, EndWordStays, EndWordStands and GroupEndAccepted in EndWords, MarksRetired in Marks, ReadingsTold in Readings,
+-- PortionsTold, DownloadStays and DownloadAllowed in Downloads, the others in Refused and Others.
 use Prim.Native.Nat.{ℕ, _+_, _-_, _*_, _<_, _≤_}
 use mathlib.Core.Path.{_≡_}
 use mathlib.Core.Bool.{Bool, true, false, not}
@@ -20,7 +20,9 @@ use Rattle.histories.specs.Ranges.{InRange}
 use Rattle.histories.specs.Missing.{shortfallsOver, missingCount}
 use Rattle.histories.specs.EndWords.{secondActiveOver, groupRetiredOver, StaysRetired}
 use Rattle.histories.specs.Tags.{marksIn, marksOver}
+use Rattle.histories.specs.Keeping.{keptOver}
 use Rattle.histories.specs.Readings.{repliesOver, readingsBy}
+use Rattle.histories.specs.Downloads.{openOver, portionOf, lengthOf, NoneEnds}
 use Rattle.board_state.specs.declared.Board.{Board}
 use Rattle.board_state.specs.State.{channelAt}
 use Rattle.board_state.specs.Main.{mainStatus}
@@ -30,7 +32,7 @@ use Rattle.board.specs.Calls.{openAnswer}
 use Rattle.board_readings.specs.Calls.{readingsAnswer}
 use Rattle.board_registers.specs.Calls.{readAnswer}
 use Rattle.board.specs.Worlds.{World}
-use Rattle.isolation.specs.Calls.{Call, writeRegister, writeSetpoint, query, tick, Lent, none, words, buffers, Item, answer, after, lentAfter, refused, ownBuffers, step, Fits, Allowed, worldAfter, opening}
+use Rattle.isolation.specs.Calls.{Call, writeRegister, writeSetpoint, openDownload, query, tick, Lent, none, words, buffers, Item, answer, after, lentAfter, refused, ownBuffers, step, Fits, Allowed, worldAfter, opening}
 use Rattle.isolation.specs.Feeding.{names, feeds, fed, observes, view}
 
 -- one channel by itself, opened with the same depths and its own part of the words
@@ -65,6 +67,8 @@ pub record Shows (n m c : ℕ) (w : World) (o : OneChannel) : Type 0 where
   -- the tag not yet used, and whether the last send used one, which no read shows
   pub tag : channelAt (w .board) c .sequencer .tag ≡ o .channel .sequencer .tag
   pub tagged : channelAt (w .board) c .sequencer .last .tagged ≡ o .channel .sequencer .last .tagged
+  -- the download and its count, which no read shows
+  pub download : channelAt (w .board) c .download ≡ o .channel .download
   -- the readings of the last send
   pub readings : readingsAnswer (w .board) c ≡ response o (to.query to.readings 0 0)
   -- both statuses
@@ -212,6 +216,50 @@ ReadingsTold =
     → (xs : List Item) → Allowed (opening n m s r) xs
     → answer (worldAfter (opening n m s r) xs .board) (query c to.readings) none
     ≡ one (readingsBy (repliesOver n m (own s (n * 16) c) (own r (m * 2) c) (fed c xs)))
+
+-- document 02, card 8: what any portion of channel c is answered in the world `w`, and its twin, lent the channel's buffers; a download is open or not, and
+-- `words` are those that it is of
+pub record Serves (c : ℕ) (w : World) (isOpen : Bool) (words : List ℕ) : Type 0 where
+  pub portion : (index size : ℕ) → answer (w .board) (query c (to.portion index size)) (ownBuffers w c) ≡ one (portionOf isOpen words index size)
+  pub long : (index size : ℕ) → answer (w .board) (query c (to.portionLength index size)) (ownBuffers w c) ≡ one (lengthOf isOpen words index size)
+
+-- from an opening, over any allowed list: by what the answers to the calls fed to c tell, so "Other channels' Group Ends don't matter."
+abbrev pub PortionsTold : Type 0
+PortionsTold =
+    (n m : ℕ) (s r : List ℕ)
+    → openAnswer n m (length s) (length r) ≡ ans.done
+    → (c : ℕ) → 1 ≤ c → c ≤ 4
+    → (xs : List Item) → Allowed (opening n m s r) xs
+    → Serves c (worldAfter (opening n m s r) xs) (openOver n m (own s (n * 16) c) (own r (m * 2) c) (fed c xs))
+    (keptOver n m (own s (n * 16) c) (own r (m * 2) c) (fed c xs) .retired)
+
+-- a download of channel c is opened in the world `then`; in the world `now` its portions are of the words that retired readbacks would have answered then
+pub record Downloads (c : ℕ) (then now : World) : Type 0 where
+  pub words : List ℕ
+  pub retired-then : answer (then .board) (query c to.retired) (ownBuffers then c) ≡ one (ans.part words)
+  pub answered : answer (then .board) (openDownload c) none ≡ one (ans.partLength (length words))
+  pub serves : Serves c now true words
+
+-- the opening of a download of channel c, which is lent nothing
+abbrev pub downloadOf : ℕ → Item
+downloadOf c = record { call = openDownload c; lent = none }
+
+-- from an opening, over any allowed list: any calls; then a download of c is opened; then any calls of which none feeds c a Group End or a reset that takes
+-- place
+abbrev pub DownloadStays : Type 0
+DownloadStays =
+    (n m : ℕ) (s r : List ℕ)
+    → openAnswer n m (length s) (length r) ≡ ans.done
+    → (c : ℕ) → 1 ≤ c → c ≤ 4
+    → (before later : List Item) → Allowed (opening n m s r) (before ++ (downloadOf c ∷ later))
+    → let w = worldAfter (opening n m s r) before in
+    NoneEnds (history (view c (step w (downloadOf c))) (fed c later))
+    → Downloads c w (worldAfter (opening n m s r) (before ++ (downloadOf c ∷ later)))
+
+-- after any allowed list one may be opened
+abbrev pub DownloadAllowed : Type 0
+DownloadAllowed =
+    (n m : ℕ) (s r : List ℕ) (c : ℕ) (before : List Item) → Allowed (opening n m s r) before → Allowed (opening n m s r) (before ++ (downloadOf c ∷ []))
 
 -- Commands with D2 for channel c, lent the memory of this world; and what c is fed of it
 abbrev pub groupEndOf : ℕ → World → Item

@@ -126,9 +126,20 @@ fn words(block: &mut Block, part: &[u32]) {
     }
 }
 
-pub fn retired<'a>(block: &mut Block, b: Board, number: u32, one: &'a [u32], two: &'a [u32]) {
+pub fn part(block: &mut Block, part: &[u32]) {
     output::text(block, b" part");
-    words(block, board_channels::retired(b, number, one, two));
+    words(block, part);
+}
+
+pub fn length(block: &mut Block, answer: PartLength) {
+    match answer {
+        PartLength::Words(count) => output::numbered(block, b" length ", count as u64),
+        PartLength::Refused(reason) => refused(block, reason),
+    }
+}
+
+pub fn retired<'a>(block: &mut Block, b: Board, number: u32, one: &'a [u32], two: &'a [u32]) {
+    part(block, board_channels::retired(b, number, one, two));
 }
 
 pub fn retired_length<'a>(
@@ -138,11 +149,7 @@ pub fn retired_length<'a>(
     one: &'a [u32],
     two: &'a [u32],
 ) {
-    let length = board_channels::retired_length(b, number, one, two);
-    match length {
-        PartLength::Words(count) => output::numbered(block, b" length ", count as u64),
-        PartLength::Refused(reason) => refused(block, reason),
-    }
+    length(block, board_channels::retired_length(b, number, one, two));
 }
 
 // A channel's retired count, asked with its own two buffers, after these words.

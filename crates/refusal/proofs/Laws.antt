@@ -18,3 +18,4 @@ refuses refusal.BadTrailer = refl
 refuses refusal.BadRecord = refl
 refuses refusal.FunctionActive = refl
 refuses refusal.InvalidRamp = refl
+refuses refusal.NoDownload = refl

@@ -26,6 +26,8 @@ pub enum Refusal {
     FunctionActive,
     // bad ramp
     InvalidRamp,
+    // overtaken
+    NoDownload,
 }
 
 // Whether a call is refused, and by which refusal.
@@ -49,5 +51,6 @@ pub fn number(refusal: Refusal) -> u8
         Refusal::BadRecord => 9,
         Refusal::FunctionActive => 10,
         Refusal::InvalidRamp => 11,
+        Refusal::NoDownload => 12,
     }
 }

@@ -30,9 +30,10 @@ use Rattle.board_state.specs.Checks.{noChannel, setpointsFit, readbacksFit}
 use Rattle.board_registers.specs.Calls.{readAnswerAt, writeAnswerAt}
 use Rattle.board.specs.Calls as board
 use Rattle.board_channels.specs.Calls as channels
+use Rattle.board_downloads.specs.Calls as downloads
 use Rattle.board_readings.specs.Calls.{readingsAnswer}
 use Rattle.board_registers.specs.Calls as registers
-use Rattle.isolation.specs.Calls.{Call, writeRegister, readRegister, writeSetpoint, arm, disarm, reply, query, tick, event, changeUser, interruptLevel, Lent, first, second, queryAnswerAt, answer}
+use Rattle.isolation.specs.Calls.{Call, writeRegister, readRegister, writeSetpoint, arm, disarm, openDownload, reply, query, tick, event, changeUser, interruptLevel, Lent, first, second, queryAnswerAt, answer}
 use Rattle.isolation.specs.Feeding.{only, Scope, ofOne, ofEach, ofMain, ofAll, ofNone, writeScope, readScope, answerFor, shared, sharedRead, observeIn, observe}
 use Rattle.channel.proofs.Cases.{either, by-test}
 use Rattle.tally.specs.Tallies.{sends}
@@ -111,7 +112,7 @@ observed-quiet c ofAll a q = one-quiet (shared a) (by-test Quiet (isRefusal a) (
 observed-quiet c ofNone a q = refl
 
 query-quiet : (b : Board) (d : ℕ) (q : Query) (l : Lent) → Quiet (queryAnswerAt b d q l)
-unfolding channels.retiredAnswer channels.retiredLength readingsAnswer reading.readingsAnswer
+unfolding channels.retiredAnswer channels.retiredLength readingsAnswer reading.readingsAnswer downloads.portionAnswer downloads.portionLength
 query-quiet b d to.retired l =
     unless-quiet (channels.retiredRefusal b d (length (first l)) (length (second l))) (ans.part (channels.retiredWords b d (first l) (second l)))
     (record { quiet = refl })
@@ -119,6 +120,12 @@ query-quiet b d to.retiredLength l =
     unless-quiet (channels.retiredRefusal b d (length (first l)) (length (second l))) (ans.partLength (length (channels.retiredWords b d (first l) (second l))))
     (record { quiet = refl })
 query-quiet b d to.readings l = by-test Quiet (noChannel d) (λ t. record { quiet = refl }) (λ t. record { quiet = refl })
+query-quiet b d (to.portion i n) l = unless-quiet (downloads.portionRefusal b d i n (length (first l)) (length (second l))) _ (record { quiet = refl })
+query-quiet b d (to.portionLength i n) l = unless-quiet (downloads.portionRefusal b d i n (length (first l)) (length (second l))) _ (record { quiet = refl })
+
+opening-quiet : (b : Board) (d : ℕ) → Quiet (downloads.openingAnswer b d)
+unfolding downloads.openingAnswer
+opening-quiet b d = by-test Quiet (noChannel d) (λ t. record { quiet = refl }) (λ t. record { quiet = refl })
 
 pub frames-observed : (c : ℕ) (b : Board) (x : Call) (l : Lent) → howMany isFrame (observe c x (answer b x l)) ≡ howMany (sends c) (answer b x l ∷ [])
 unfolding howMany answer registers.writeAnswer registers.readAnswer board.tickBoardAnswer board.eventAnswer board.userAnswer
@@ -128,6 +135,7 @@ frames-observed c b (readRegister a) l = observed-quiet c (readScope (named a)) 
 frames-observed c b (writeSetpoint d u f i y) l = observed-quiet c (ofOne d) _ (setpoint-quiet b (length (first l)) d u f i)
 frames-observed c b (arm d) l = observed-quiet c (ofOne d) _ (arm-quiet d)
 frames-observed c b (disarm d) l = observed-quiet c (ofOne d) _ (arm-quiet d)
+frames-observed c b (openDownload d) l = observed-quiet c (ofOne d) _ (opening-quiet b d)
 frames-observed c b (reply d y) l = observed-quiet c (ofOne d) _ (reply-quiet b (length (first l)) d y)
 frames-observed c b (query d q) l = observed-quiet c (ofOne d) _ (query-quiet b d q l)
 frames-observed c b tick l =

@@ -85,8 +85,8 @@ fn pool_call(
     lent_call(block, b, pool::front_mut(readbacks, length), record)
 }
 
-// Retired readbacks and their length: kinds 7, 8.
-fn retired_call(block: &mut Block, b: Board, readbacks: &[u32], record: Record) {
+// A call that is lent two readback buffers: retired readbacks and portions, and their lengths: kinds 7, 8, 17, 18.
+fn buffer_call(block: &mut Block, b: Board, readbacks: &[u32], record: Record) {
     let one = pool::part(
         readbacks,
         lent::first_buffer(record.lent, b.m, record.channel),
@@ -95,10 +95,13 @@ fn retired_call(block: &mut Block, b: Board, readbacks: &[u32], record: Record) 
         readbacks,
         lent::second_buffer(record.lent, b.m, record.channel),
     );
-    if record.kind == 7 {
-        printed_calls::retired(block, b, record.channel as u32, one, two);
-    } else {
-        printed_calls::retired_length(block, b, record.channel as u32, one, two);
+    let number = record.channel as u32;
+    let kind = record.kind;
+    match kind {
+        7 => printed_calls::retired(block, b, number, one, two),
+        8 => printed_calls::retired_length(block, b, number, one, two),
+        17 => printed_downloads::portion(block, b, number, record.x, record.y, one, two),
+        _ => printed_downloads::portion_length(block, b, number, record.x, record.y, one, two),
     }
 }
 
@@ -107,7 +110,7 @@ fn none(block: &mut Block) {
     output::text(block, b" none");
 }
 
-// A call that is lent nothing: kinds 2, 4, 5, 11, 12, 15.
+// A call that is lent nothing: kinds 2, 4, 5, 11, 12, 15, 16.
 fn plain_call(block: &mut Block, b: Board, record: Record) -> Board {
     let kind = record.kind;
     match kind {
@@ -123,6 +126,7 @@ fn plain_call(block: &mut Block, b: Board, record: Record) -> Board {
             printed_readings::last_readings(block, b, record.channel as u32);
             b
         }
+        16 => printed_downloads::open(block, b, record.channel as u32),
         _ => {
             none(block);
             b
@@ -168,8 +172,8 @@ fn call(
     match kind {
         0 => open_again(block, setpoints, readbacks, record),
         1 | 3 | 6 | 9 | 10 => pool_call(block, b, setpoints, readbacks, record),
-        7 | 8 => {
-            retired_call(block, b, readbacks, record);
+        7 | 8 | 17 | 18 => {
+            buffer_call(block, b, readbacks, record);
             b
         }
         13 => {

@@ -19,6 +19,9 @@ group-ended-requires-2 c κs = search needs
 group-ended-requires-3 : tie.Need-group-ended-requires-3
 group-ended-requires-3 c κs = search needs
 
+none-requires : tie.Need-none-requires
+none-requires c κs = search needs
+
 group-ended-requires-4 : tie.Need-group-ended-requires-4
 group-ended-requires-4 c κs = search needs
 
@@ -27,11 +30,12 @@ unfolding groupEnded
 returns c =
     simp (
       c .group-ended4 .ensures,
-      c .before .group-ended3 .ensures,
-      c .before .before .group-ended2 .ensures,
-      c .before .before .before .group-ended .ensures,
-      c .before .before .before .before .latched .ensures,
-      c .before .before .before .before .before .early-ended .ensures,
+      c .before .none .ensures,
+      c .before .before .group-ended3 .ensures,
+      c .before .before .before .group-ended2 .ensures,
+      c .before .before .before .before .group-ended .ensures,
+      c .before .before .before .before .before .latched .ensures,
+      c .before .before .before .before .before .before .early-ended .ensures,
     )
 
 pub group-ended-spec : {M : Type 1} → statement M
@@ -43,5 +47,6 @@ group-ended-spec =
     group-ended-requires
     group-ended-requires-2
     group-ended-requires-3
+    none-requires
     group-ended-requires-4
     returns)

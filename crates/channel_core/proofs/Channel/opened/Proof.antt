@@ -19,6 +19,9 @@ opened-requires-4 c κs = search needs
 none-requires : tie.Need-none-requires
 none-requires c κs = search needs
 
+none-requires-2 : tie.Need-none-requires-2
+none-requires-2 c κs = search needs
+
 opened-requires-5 : tie.Need-opened-requires-5
 opened-requires-5 c κs = search needs
 
@@ -27,14 +30,15 @@ unfolding opened
 returns c =
     simp (
       c .opened5 .ensures,
-      c .before .none .ensures,
-      c .before .before .opened4 .ensures,
-      c .before .before .before .opened3 .ensures,
-      c .before .before .before .before .opened2 .ensures,
-      c .before .before .before .before .before .opened .ensures,
+      c .before .none2 .ensures,
+      c .before .before .none .ensures,
+      c .before .before .before .opened4 .ensures,
+      c .before .before .before .before .opened3 .ensures,
+      c .before .before .before .before .before .opened2 .ensures,
+      c .before .before .before .before .before .before .opened .ensures,
     )
 
 pub opened-spec : {M : Type 1} → statement M
 opened-spec =
     tie.close
-    (tie.spec opened-requires opened-requires-2 opened-requires-3 opened-requires-4 none-requires opened-requires-5 returns)
+    (tie.spec opened-requires opened-requires-2 opened-requires-3 opened-requires-4 none-requires none-requires-2 opened-requires-5 returns)

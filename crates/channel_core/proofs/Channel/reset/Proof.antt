@@ -19,6 +19,9 @@ opened-requires-3 c κs = search needs
 none-requires : tie.Need-none-requires
 none-requires c κs = search needs
 
+none-requires-2 : tie.Need-none-requires-2
+none-requires-2 c κs = search needs
+
 opened-requires-4 : tie.Need-opened-requires-4
 opened-requires-4 c κs = search needs
 
@@ -27,14 +30,15 @@ unfolding reset
 returns c =
     simp (
       c .opened4 .ensures,
-      c .before .none .ensures,
-      c .before .before .opened3 .ensures,
-      c .before .before .before .opened2 .ensures,
-      c .before .before .before .before .opened .ensures,
-      c .before .before .before .before .before .reset .ensures,
+      c .before .none2 .ensures,
+      c .before .before .none .ensures,
+      c .before .before .before .opened3 .ensures,
+      c .before .before .before .before .opened2 .ensures,
+      c .before .before .before .before .before .opened .ensures,
+      c .before .before .before .before .before .before .reset .ensures,
     )
 
 pub reset-spec : {M : Type 1} → statement M
 reset-spec =
     tie.close
-    (tie.spec reset-requires opened-requires opened-requires-2 opened-requires-3 none-requires opened-requires-4 returns)
+    (tie.spec reset-requires opened-requires opened-requires-2 opened-requires-3 none-requires none-requires-2 opened-requires-4 returns)
