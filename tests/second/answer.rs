@@ -69,5 +69,6 @@ pub fn ticks(board: &mut Board, setpoints: &[u32], count: u32) -> Answer {
             Err(n) => return Answer::Refused(n),
         }
     }
+    board.watch_download_ticks(count);
     Answer::Ticks(sent)
 }

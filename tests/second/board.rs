@@ -2,6 +2,7 @@
 
 mod command;
 mod crc;
+mod download;
 mod end_word;
 mod life;
 mod missing;
@@ -14,9 +15,11 @@ mod sending;
 mod tag;
 mod volts;
 
+pub use self::download::Portion;
 pub use self::peek::Peek;
 pub use self::replies::Reply;
 use self::crc::Unread;
+use self::download::Downloads;
 use self::end_word::Groups;
 use self::life::Asked;
 use self::missing::Watch;
@@ -47,6 +50,8 @@ pub struct Board {
     tags: [Tags; 4],
     /// Of each channel, on a script's board; else empty.
     watched_volts: Vec<WatchedVolts>,
+    /// On a script's board; else none.
+    downloads: Option<Downloads>,
 }
 
 impl Board {
@@ -68,6 +73,7 @@ impl Board {
             unread: Default::default(),
             tags: Default::default(),
             watched_volts: Vec::new(),
+            downloads: None,
         }
     }
 
@@ -112,7 +118,7 @@ impl Board {
             0x06 => {
                 self.tally.add(Did::reset_without_d0);
                 self.watch_tag_kept(c, Did::tag_kept_over_reset_without_d0);
-                self.watch_volts_kept(c, Did::volts_kept_over_reset_without_d0);
+                self.watch_left(c, Did::volts_kept_over_reset_without_d0, Did::download_kept_over_reset_without_d0);
             }
             0x08 => self.act(c, Asked::by_command(value), readbacks),
             0xFC => return self.ask_command(c, value),
@@ -130,6 +136,7 @@ impl Board {
         self.close_window(c, Window::Closed);
         self.drop_tag(c, Dropped::Reset);
         self.watch_volts_idled(c, Idled::Reset);
+        self.watch_download_reset(c);
         self.watch_reset(c);
         self.watch_group_reset(c);
         self.watch_crc_reset(c);
@@ -149,7 +156,7 @@ impl Board {
         if at == TAG {
             self.watch_tag_register(c, value);
         }
-        self.watch_volts_kept(c, Did::volts_kept_over_register_write);
+        self.watch_left(c, Did::volts_kept_over_register_write, Did::download_kept_over_register_write);
         self.ch[c].w[at] = kept;
     }
 
@@ -175,13 +182,13 @@ impl Board {
                 }
                 self.watch_status_read(c, latched);
                 self.tally_crc(c, offset, latched);
-                self.watch_volts_kept(c, Did::volts_kept_over_status_read);
+                self.watch_left(c, Did::volts_kept_over_status_read, Did::download_kept_over_status_read);
                 Ok(latched)
             }
             Place::Channel(c, 0x0C) => {
                 let count = self.read_missing(c);
                 self.tally_tag_shortfall(c, count);
-                self.watch_volts_kept(c, Did::volts_kept_over_count_read);
+                self.watch_left(c, Did::volts_kept_over_count_read, Did::download_kept_over_count_read);
                 Ok(count)
             }
             Place::Channel(c, offset) => {
@@ -207,7 +214,7 @@ impl Board {
             (false, true) => self.tally.add(Did::setpoint_inactive_while_armed),
             (false, false) => {}
         }
-        self.watch_volts_kept(c, Did::volts_kept_over_setpoint_write);
+        self.watch_left(c, Did::volts_kept_over_setpoint_write, Did::download_kept_over_setpoint_write);
         setpoints[self.word_at(c, user, buffer - 1, index)] = word;
         Ok(())
     }
@@ -224,6 +231,7 @@ impl Board {
             self.watch_tag_kept(c, Did::tag_kept_over_arm);
             self.watch_volts_kept(c, Did::volts_kept_over_arm);
         }
+        self.watch_download_kept(c, Did::download_kept_over_arm);
         self.ch[c].armed = true;
         Ok(())
     }
@@ -236,6 +244,8 @@ impl Board {
         self.drop_command(c, if is_armed { Did::command_dropped_by_disarm } else { Did::command_dropped_by_disarm_of_disarmed });
         self.drop_tag(c, Dropped::Disarm);
         self.watch_volts_idled(c, Idled::Disarm);
+        self.watch_download_kept(c, Did::download_kept_over_disarm);
+        self.watch_download_beside(c, Did::download_kept_over_disarm_of_other_channel);
         self.watch_idling(c, Did::missing_idled_by_disarm, Did::missing_kept_over_disarm);
         self.ch[c].function = None;
         self.ch[c].armed = false;
@@ -269,28 +279,30 @@ impl Board {
         // "D3 an event came"
         self.main[0] |= 8;
         self.main[1] |= 8;
+        let downloads = self.open_downloads();
         for c in 0..4 {
             let asked = Asked::by_event(code, &self.ch[c]);
             if asked.is_nothing() {
-                self.watch_volts_kept(c, Did::volts_kept_over_event_of_no_meaning);
+                self.watch_left(c, Did::volts_kept_over_event_of_no_meaning, Did::download_kept_over_event_of_no_meaning);
             }
             self.act(c, asked, readbacks);
         }
         self.watch_tag_event(code);
+        self.watch_download_event(downloads);
         Ok(())
     }
 
     /// Refusal 2. "A user change to another user idles every channel, with EE as above."
     pub fn change_user(&mut self, user: u32) -> Result<(), u8> {
         if !(1..=8).contains(&user) {
-            (0..4).for_each(|c| self.watch_volts_kept(c, Did::volts_kept_over_refused_user));
+            (0..4).for_each(|c| self.watch_left(c, Did::volts_kept_over_refused_user, Did::download_kept_over_refused_user));
             return Err(2);
         }
         if user == self.user {
             self.tally.add(Did::user_same);
             for c in 0..4 {
                 self.watch_tag_kept(c, Did::tag_kept_over_same_user);
-                self.watch_volts_kept(c, Did::volts_kept_over_same_user);
+                self.watch_left(c, Did::volts_kept_over_same_user, Did::download_kept_over_same_user);
             }
             return Ok(());
         }
@@ -300,6 +312,7 @@ impl Board {
             self.watch_idling(c, Did::missing_idled_by_user_change, Did::missing_kept_over_user_change);
             self.watch_tag_kept(c, Did::tag_kept_over_user_change);
             self.watch_volts_idled(c, Idled::UserChange { from, to: user });
+            self.watch_download_kept(c, Did::download_kept_over_user_change);
             self.end_function(c, Did::ee_by_user_change);
             if self.is_for_command(c) {
                 self.tally.add(Did::command_window_open_at_user_change);

@@ -110,6 +110,8 @@ pub struct Channel {
     pub window: Window,
     /// A tag that is not yet used (document 02, request 6).
     pub is_tag_pending: bool,
+    /// The retired count that a download remembers, while one is open (document 02, request 8).
+    pub download: Option<usize>,
     /// Command frames since the setpoint count was cleared (for the tally alone).
     pub commands: u32,
 }
@@ -141,6 +143,7 @@ impl Channel {
             waiting: None,
             window: Window::Closed,
             is_tag_pending: false,
+            download: None,
             commands: 0,
         }
     }

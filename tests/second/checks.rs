@@ -1,6 +1,7 @@
-//! `selftest`: document 01's starred examples, and examples of document 02's requests 3 to 7, run on this program.
+//! `selftest`: document 01's starred examples, and examples of document 02's requests 3 to 8, run on this program.
 
 mod crc;
+mod download;
 mod end_word;
 mod ramp;
 mod tag;
@@ -64,7 +65,7 @@ impl Small {
 type Done = Vec<(&'static str, bool)>;
 
 pub fn all() -> Done {
-    let of_requests = [end_word::all(), ramp::all(), crc::all(), tag::all(), volts::all()];
+    let of_requests = [end_word::all(), ramp::all(), crc::all(), tag::all(), volts::all(), download::all()];
     [frames(), starts(), resumes(), kept_words(), files(), of_requests.concat()].concat()
 }
 

@@ -9,6 +9,7 @@ mod acts;
 mod commands;
 mod crc;
 mod dice;
+mod download;
 mod end_word;
 mod entries;
 mod files;

@@ -11,13 +11,16 @@
 //!    6 reply y + z × 2^32      (readbacks)     12 interrupt level   13 poke
 //!   14 ramp of y breakpoints, N x, lent z low and z high words, with no board
 //!   15 voltages
+//!   16 open a download   17 portion, first x, length y   18 its length   (lent codes of 7)
 //!
 //! Lent codes: 0 right, 1 one word short, 2 empty, 3 the other pool's first words, 4 one word
-//! long; of the retired calls: 0 own, 1 first short, 2 both empty, 3 the next channel's,
+//! long; of retired calls and portions: 0 own, 1 first short, 2 both empty, 3 the next channel's,
 //! 4 second short, 5 swapped, 6 first long, 7 own words parted one word early.
 
+mod parts;
+
 use crate::answer::{answer, ticks, Answer};
-use crate::board::Board;
+use crate::board::{Board, Portion};
 use crate::map::readable;
 use crate::ramp::{ramp, reached, Asked, Breakpoint};
 use crate::runfile::number;
@@ -73,26 +76,8 @@ impl Bench {
         let lent_r = (8 * m as u64).min(READBACKS as u64) as usize;
         let (mut board, opened) = Board::open(n, m, lent_s, lent_r);
         board.watch_volts();
+        board.watch_downloads();
         (Bench { board, setpoints, readbacks }, answer(opened, |_| Answer::Ok))
-    }
-
-    /// The first word and length of the two buffers lent to a retired call.
-    fn two(&self, c: u32, code: u8) -> [(usize, usize); 2] {
-        let m = self.board.m as usize;
-        let own = if (1..=4).contains(&c) { c as usize - 1 } else { 0 };
-        let of = |c: usize| [(2 * c * m, m), ((2 * c + 1) * m, m)];
-        let [(a, _), (b, _)] = of(own);
-        let short = m.saturating_sub(1);
-        match code {
-            1 => [(a, short), (b, m)],
-            2 => [(a, 0), (b, 0)],
-            3 => of((own + 1) % 4),
-            4 => [(a, m), (b, short)],
-            5 => [(b, m), (a, m)],
-            6 => [(a, m + 1), (b, m)],
-            7 => [(a, short), (a + short, m + 1)],
-            _ => [(a, m), (b, m)],
-        }
     }
 
     /// Another opening, which takes the place of the board; the tally goes on.
@@ -105,24 +90,11 @@ impl Bench {
         }
         opened.watch_volts();
         opened.watch_volts_opening(&self.board);
+        opened.watch_downloads();
+        opened.watch_download_board_opening(&self.board);
         opened.tally.join(&self.board.tally);
         self.board = opened;
         answer(said, |_| Answer::Ok)
-    }
-
-    fn retired(&mut self, c: u32, code: u8, is_length: bool) -> Answer {
-        let two = self.two(c, code);
-        let readbacks = &self.readbacks;
-        let [first, second] = two.map(|(from, len)| &readbacks[from..from + len]);
-        let told = self.board.retired(c, first, second);
-        if is_length {
-            return answer(told, |(_, length)| Answer::Length(length));
-        }
-        // "gives the empty part when refused"
-        let Ok((is_second, length)) = told else { return Answer::Part(Vec::new()) };
-        let part = &(if is_second { second } else { first })[..length];
-        self.board.tally_tag_part(c, part);
-        Answer::Part(part.to_vec())
     }
 
     fn poke(&mut self, is_readback: bool, at: usize, word: u32) -> Answer {
@@ -159,6 +131,15 @@ impl Bench {
         answer(told, Answer::Volts)
     }
 
+    /// It is lent nothing, whatever the lent code.
+    fn open_download(&mut self, c: u32, code: u8) -> Answer {
+        let told = self.board.open_download(c);
+        if told.is_ok_and(|count| count > 0) && (1..=7).contains(&code) {
+            self.board.tally.add(Did::download_opened_whatever_lent_code);
+        }
+        answer(told, Answer::Length)
+    }
+
     pub fn step(&mut self, r: &[u8]) -> Answer {
         let (kind, c, code, buffer) = (r[0], r[1] as u32, r[2], r[3] as u32);
         let (x, y, z) = (number(r, 4), number(r, 8), number(r, 12));
@@ -183,6 +164,8 @@ impl Bench {
             13 => self.poke(c != 0, x as usize, y),
             14 => self.ramp(x, y as usize & 0xFFFF, z as usize & 0xFFFF, z as usize >> 16),
             15 => self.voltages(c, code),
+            16 => self.open_download(c, code),
+            17 | 18 => self.portion(Portion { c, first: x, length: y, is_length: kind == 18 }, code),
             _ => Answer::None,
         }
     }

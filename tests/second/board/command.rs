@@ -21,14 +21,14 @@ impl Board {
             2 => None,
             _ if !ch.armed || ch.function.is_some() => {
                 self.tally_refused_10(c, bits);
-                self.watch_volts_kept(c, Did::volts_kept_over_command_refused);
+                self.watch_left(c, Did::volts_kept_over_command_refused, Did::download_kept_over_command_refused);
                 return Err(10);
             }
             // "FC D0 sends on the next tick. [...] D0 wins if both are set."
             _ => Some(self.now + 1),
         };
         self.tally_replaced(c, bits);
-        self.watch_volts_kept(c, Did::volts_kept_over_command_asked);
+        self.watch_left(c, Did::volts_kept_over_command_asked, Did::download_kept_over_command_asked);
         let ch = &mut self.ch[c];
         let fields = [ch.w[COMMAND], ch.w[COMMAND + 1]];
         let asked = CommandAsked { bits, fields, user: self.user, active_readback: ch.active_readback() };
@@ -62,6 +62,7 @@ impl Board {
         let waiting = ch.waiting.take()?;
         self.tally_sent(c, waiting.asked);
         self.watch_tag_at_command(c, waiting.asked.bits & 1 == 1);
+        self.watch_download_kept(c, Did::download_kept_over_command_sent);
         let ch = &mut self.ch[c];
         // "FE is cleared when a command frame is sent."
         ch.w[REPLIED] = 0;
@@ -83,6 +84,7 @@ impl Board {
     pub(super) fn keep_for_command(&mut self, c: usize, reply: u64, wrong: bool) {
         self.tally_kept_for_command(c, reply, wrong);
         self.watch_tag_kept(c, Did::tag_kept_over_command_reply);
+        self.watch_download_kept(c, Did::download_kept_over_command_reply);
         let w = &mut self.ch[c].w;
         let at = PAIRS + 2 * w[REPLIED] as usize;
         w[at] = (wrong as u16) << 8 | (reply >> 34) as u16 & 0xFF;

@@ -183,10 +183,14 @@ impl Board {
         groups.last_reply = None;
     }
 
+    /// The group before lost replies.
+    pub(super) fn is_after_lost(&self, c: usize) -> bool {
+        self.groups[c].before.is_some_and(|b| b.lost > 0)
+    }
+
     /// Before a part is answered; those are its words in the buffers that were lent.
     pub(super) fn tally_part(&mut self, c: usize, part: &[u32]) {
-        let Groups { before, is_part_reset, .. } = self.groups[c];
-        let is_after_lost = before.is_some_and(|b| b.lost > 0);
+        let (is_part_reset, is_after_lost) = (self.groups[c].is_part_reset, self.is_after_lost(c));
         self.tally_rows(&[
             (part.is_empty(), Did::part_empty),
             (!part.is_empty(), Did::part_not_empty),

@@ -83,6 +83,7 @@ impl Board {
         self.watch_idling(c, Did::missing_idled_by_group_end, Did::missing_kept_over_group_end);
         self.drop_tag(c, Dropped::GroupEnd(asked));
         self.watch_volts_idled(c, Idled::GroupEnd { by_command: asked.by_command, with_start: asked.start });
+        self.end_download(c, asked);
         self.end_function(c, Did::ee_by_group_end);
         self.command_at_group_end(c);
         self.write_end_word(c, readbacks);
@@ -142,10 +143,11 @@ impl Board {
             }
             ch.function = Some(f);
             self.watch_tag_kept(c, Did::tag_kept_over_restart);
-            self.watch_volts_kept(c, Did::volts_kept_over_restart);
+            self.watch_left(c, Did::volts_kept_over_restart, Did::download_kept_over_restart);
         } else {
             ch.function = Some(f);
             self.tally.add(Did::run_latched);
+            self.watch_download_kept(c, Did::download_kept_over_start);
             self.latch(c, RUN);
         }
     }
@@ -165,7 +167,7 @@ impl Board {
                 let names = [Did::resume_1, Did::resume_2, Did::resume_3, Did::resume_4, Did::resume_vme];
                 self.tally.add(names[k as usize - 1]);
                 self.watch_tag_kept(c, Did::tag_kept_over_resume);
-                self.watch_volts_kept(c, Did::volts_kept_over_resume);
+                self.watch_left(c, Did::volts_kept_over_resume, Did::download_kept_over_resume);
             }
             _ => {}
         }
@@ -264,6 +266,7 @@ impl Board {
         let sending = self.sending(c, is_next);
         self.look_back(c, is_next);
         self.watch_volts_send(c, sending);
+        self.watch_download_send(c);
         let (now, user) = (self.now, self.user);
         let index = self.ch[c].function.as_ref()?.index;
         let at = self.word_at(c, user, self.ch[c].active_setpoint(user), index);
@@ -299,6 +302,9 @@ impl Board {
             Hold::Pause(k) => [Did::pause_1, Did::pause_2, Did::pause_3, Did::pause_4, Did::pause_vme][k as usize - 1],
         });
         self.tally_missing_with_hold(c, h);
+        if h == Hold::Last {
+            self.watch_download_kept(c, Did::download_kept_over_last_word);
+        }
         self.latch(c, status_of(h));
     }
 }

@@ -1,4 +1,4 @@
-//! What the corpus reaches of calls that are refused 1, and so leave tags and readings as they are.
+//! What the corpus reaches of calls that are refused 1, and so leave tags, readings and downloads as they are.
 
 use super::life::Asked;
 use super::Board;
@@ -13,6 +13,7 @@ impl Board {
             if !p.idle && p.wait == 1 {
                 self.watch_volts_kept(c, Did::volts_kept_over_refused_tick);
             }
+            self.watch_download_kept(c, Did::download_kept_over_refused_tick);
         }
     }
 
@@ -32,7 +33,7 @@ impl Board {
             _ if !(1..=4).contains(&c) => {}
             0x06 if value & 1 == 1 => {
                 self.watch_tag_kept(c - 1, Did::tag_kept_over_refused_drop_by_reset);
-                self.watch_volts_kept(c - 1, Did::volts_kept_over_refused_reset);
+                self.watch_left(c - 1, Did::volts_kept_over_refused_reset, Did::download_kept_over_refused_reset);
             }
             0x08 => self.watch_refused(c - 1, Asked::by_command(value)),
             _ => {}
@@ -42,7 +43,8 @@ impl Board {
     /// What an event or a command asks of a channel.
     fn watch_refused(&mut self, c: usize, asked: Asked) {
         if asked.group_end {
-            self.watch_volts_kept(c, Did::volts_kept_over_refused_group_end);
+            let by = [Did::download_kept_over_refused_group_end_event, Did::download_kept_over_refused_group_end_command];
+            self.watch_left(c, Did::volts_kept_over_refused_group_end, by[asked.by_command as usize]);
         }
         self.watch_tag_refused(c, asked);
     }

@@ -51,6 +51,7 @@ impl Board {
             self.tally.add(why);
             self.tally_tag_unasked(c, why);
             self.watch_volts_unasked(c, reply, wrong, why);
+            self.watch_download_kept(c, Did::download_kept_over_reply_unasked);
             if wrong {
                 self.tally.add(Did::crc_wrong_unasked);
             }
@@ -92,6 +93,7 @@ impl Board {
         }
         let sent = *sent;
         self.watch_volts_reply(c, reply, wrong, !is_full);
+        self.watch_download_reply(c, !is_full);
         if is_full {
             self.tally_lost(c, sent.replies);
             self.tally_tag_lost(sent, wrong);
@@ -114,17 +116,22 @@ impl Board {
     /// Refusals 1, 2: the length of the part, and whether it is of the second buffer.
     /// "the answer is the stored part of the inactive one itself, by count, without the end word"
     pub fn retired(&mut self, c: u32, first: &[u32], second: &[u32]) -> Result<(bool, usize), u8> {
-        if first.len() as u64 != self.m as u64 || second.len() as u64 != self.m as u64 {
-            self.tally.add(Did::retired_refused_1);
-            return Err(1);
-        }
+        self.two_fit([first, second]).inspect_err(|_| self.tally.add(Did::retired_refused_1))?;
         let c = Board::channel(c)?;
         let is_second = self.ch[c].active_readback() == 0;
         let length = self.retired_count(c);
         let part = &(if is_second { second } else { first })[..length];
         self.tally_part(c, part);
-        self.watch_volts_kept(c, Did::volts_kept_over_retired);
+        if length > 0 {
+            self.tally_retired_beside_download(c);
+        }
+        self.watch_left(c, Did::volts_kept_over_retired, Did::download_kept_over_retired);
         Ok((is_second, length))
+    }
+
+    /// "(M each for the two retired buffers)"
+    pub(super) fn two_fit(&self, lent: [&[u32]; 2]) -> Result<(), u8> {
+        if lent.iter().all(|buffer| buffer.len() as u64 == self.m as u64) { Ok(()) } else { Err(1) }
     }
 
     /// The retired count of a channel (0–3), as its own buffers would show it.

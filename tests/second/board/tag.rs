@@ -15,7 +15,7 @@ impl Board {
     /// "A tag event or Commands D3 on an armed channel marks the next setpoint send."
     pub(super) fn tag(&mut self, c: usize, asked: &Asked) {
         self.watch_tag(c, asked);
-        self.watch_volts_kept(c, Did::volts_kept_over_tag);
+        self.watch_left(c, Did::volts_kept_over_tag, Did::download_kept_over_tag);
         if self.ch[c].armed {
             self.ch[c].is_tag_pending = true;
         }

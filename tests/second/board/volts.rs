@@ -8,6 +8,7 @@ pub use self::kept::Idled;
 pub use self::reached::WatchedVolts;
 use super::Board;
 use crate::channel::Sent;
+use crate::tally::Did;
 use crate::volts::{voltage, Reading};
 
 impl Sent {
@@ -29,6 +30,7 @@ impl Board {
         let sent = self.ch[c].function.as_ref().and_then(|f| f.sent);
         let told = sent.map_or([Reading::Lost; 4], |sent| sent.readings);
         self.tally_voltages(c, told);
+        self.watch_download_kept(c, Did::download_kept_over_voltages);
         Ok(told)
     }
 }

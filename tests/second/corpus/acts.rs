@@ -2,6 +2,7 @@
 
 use super::commands::{command, command_with_full_buffer};
 use super::dice::Dice;
+use super::download::{download, glance};
 use super::end_word::{end_word, fill};
 use super::missing::missing;
 use super::story::{delay, load, reply, ticks, word, Taste, BASE};
@@ -46,6 +47,9 @@ pub fn act(world: &mut World, d: &Dice, t: &Taste) {
     if world.is_script() && d.chance(t.volts) {
         return volts(world, &s);
     }
+    if world.is_script() && d.chance(t.downloads) {
+        return download(world, &s);
+    }
     match choice(&s) {
         0 => world.put(if d.chance(93) { Op::Arm(c) } else { Op::Disarm(c) }, d),
         1 => start(world, &s),
@@ -63,6 +67,9 @@ pub fn act(world: &mut World, d: &Dice, t: &Taste) {
     }
     if world.is_script() && d.chance(15) {
         ask(world, &s);
+    }
+    if world.is_script() && d.chance(5) {
+        glance(world, &s);
     }
 }
 
@@ -270,7 +277,7 @@ fn odd_record(d: &Dice, is_script: bool) -> [u8; 16] {
     let mut r = d.bytes();
     if is_script {
         // kinds past the list make no call
-        r[0] = 16 + d.below(240) as u8;
+        r[0] = 19 + d.below(237) as u8;
         return r;
     }
     r[0] = d.of(&[0, 1, 3, 4, 5, 5, 8, 9, d.below(256) as u8]);

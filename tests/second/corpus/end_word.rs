@@ -25,7 +25,7 @@ pub fn end_word(world: &mut World, s: &Scene) {
 }
 
 /// How many readbacks a group gets. Deep buffers are filled only in the stories that fill them.
-fn size(world: &World, s: &Scene) -> usize {
+pub fn size(world: &World, s: &Scene) -> usize {
     let most = world.board().capacity();
     let few = (s.d.below(8) as usize).min(most);
     if most > 16 && !s.t.fills {
@@ -35,7 +35,7 @@ fn size(world: &World, s: &Scene) -> usize {
 }
 
 /// Replies until the active buffer holds so many readbacks; fewer if its channel's next send is far off.
-fn store(world: &mut World, s: &Scene, wanted: usize) {
+pub fn store(world: &mut World, s: &Scene, wanted: usize) {
     for _ in 0..100 {
         let p = s.now(world);
         if p.stored >= wanted || world.records() > 6_000 {

@@ -2,6 +2,7 @@
 
 use super::crc::every_entry;
 use super::dice::Dice;
+use super::download::download_script;
 use super::ramp::ramp_script;
 use super::story::{story, story_of_tags, BASE, DEPTHS_M, DEPTHS_N};
 use super::volts::volts_script;
@@ -188,6 +189,10 @@ pub fn generate(dir: &Path, seed: u64, count: u32) -> std::io::Result<()> {
             fs::write(dir.join(format!("ramp-{i:04}.calls")), ramp_script(&d, i / 10))?;
             let d = Dice::new(seed ^ (i as u64) << 32 ^ 0x56);
             fs::write(dir.join(format!("volts-{i:04}.calls")), volts_script(&d, i / 10))?;
+        }
+        if i % 20 == 0 {
+            let d = Dice::new(seed ^ (i as u64) << 32 ^ 0x44);
+            fs::write(dir.join(format!("download-{i:04}.calls")), download_script(&d, i / 20))?;
         }
     }
     Ok(())

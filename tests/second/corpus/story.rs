@@ -31,6 +31,8 @@ pub struct Taste {
     pub tags: u32,
     /// Acts around readings in volts, in percent.
     pub volts: u32,
+    /// Acts around downloads, in percent.
+    pub downloads: u32,
 }
 
 impl Taste {
@@ -54,6 +56,7 @@ impl Taste {
             delays: d.of(&[1, 12, 30, 60]),
             tags: d.of(&[0, 3, 6]),
             volts: 3,
+            downloads: 2,
         }
     }
 
@@ -67,6 +70,11 @@ impl Taste {
     fn of_volts(d: &Dice) -> Taste {
         let channels = d.of(&[&[1, 2, 3, 4][..], &[1, 2, 3, 4], &[1, 3], &[2, 4]]).to_vec();
         Taste { quirks: 1, fills: false, tags: 2, volts: 85, clocks: &[3], channels, ..Taste::new(d) }
+    }
+
+    /// Little but downloads, the same way.
+    fn of_downloads(d: &Dice) -> Taste {
+        Taste { volts: 0, downloads: 85, ..Taste::of_volts(d) }
     }
 }
 
@@ -180,6 +188,10 @@ pub fn story_of_volts(world: &mut World, d: &Dice, acts: u32) {
     story_of(world, d, &Taste::of_volts(d), acts);
 }
 
+pub fn story_of_downloads(world: &mut World, d: &Dice, acts: u32) {
+    story_of(world, d, &Taste::of_downloads(d), acts);
+}
+
 fn story_of(world: &mut World, d: &Dice, t: &Taste, acts: u32) {
     world.put(Op::Write(0x22, d.of(&[1, 3, 7, 0xFFFF])), d);
     world.put(Op::Write(0x26, d.of(&[0xF0, 0xFFFF, 0x10, d.below(65_536) as u16])), d);
@@ -231,6 +243,7 @@ fn reopen(world: &mut World, d: &Dice) {
                 Op::Retired { c, length: false, lent: 0 }, Op::Disarm(c), Op::Write(BASE * c + 0xFC, 1), Op::Write(BASE * c + 0xFC, 2),
                 Op::Write(BASE * c + 0xE0, 0x0315), Op::Read(BASE * c + 0xE0), Op::Read(BASE * c + 0x0C),
                 Op::Write(BASE * c + 8, 8), Op::Write(BASE * c + 0x2C, 0x101), Op::Read(BASE * c + 0x2C), Op::Volts { c, lent: 0 },
+                Op::Download { c, lent: 0 }, Op::Portion { c, first: 0, length: d.below(2), is_length: true, lent: d.of(&[0, 0, 6]) },
             ]);
             world.put(op, d);
         }

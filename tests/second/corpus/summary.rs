@@ -42,7 +42,7 @@ struct Reach {
     /// Files with a frame.
     sending: u64,
     /// By number.
-    refused: [u64; 12],
+    refused: [u64; 13],
     did: Tally,
     /// Of the list of remainders, by frames without auxiliary bits and with them.
     entries: [Entries; 2],
@@ -51,7 +51,7 @@ struct Reach {
 impl Reach {
     fn new() -> Reach {
         let entries = [Entries::new(), Entries::new()];
-        Reach { files: 0, answers: 0, frames: 0, sending: 0, refused: [0; 12], did: Tally::new(), entries }
+        Reach { files: 0, answers: 0, frames: 0, sending: 0, refused: [0; 13], did: Tally::new(), entries }
     }
     fn add(&mut self, answers: &[Answer], did: Option<&Tally>) {
         self.files += 1;
@@ -79,13 +79,13 @@ impl Reach {
     }
 }
 
-/// Prints the refusals, and answers those that are not reached: no run file is lent wrong lengths or asks for a ramp, and
-/// a script has no trailer and no range of a record's numbers.
+/// Prints the refusals, and answers those that are not reached: no run file is lent wrong lengths or asks for a ramp or a
+/// download, and a script has no trailer and no range of a record's numbers.
 fn refusals(runs: &Reach, calls: &Reach) -> Vec<String> {
     let mut missing = Vec::new();
-    for n in 1..=11 {
+    for n in 1..=12 {
         println!("refused {n}: {} in run files, {} in scripts", runs.refused[n], calls.refused[n]);
-        let (is_of_runs, is_of_scripts) = (n != 1 && n != 11, n != 8 && n != 9);
+        let (is_of_runs, is_of_scripts) = (![1, 11, 12].contains(&n), n != 8 && n != 9);
         if (is_of_runs && runs.refused[n] == 0) || (is_of_scripts && calls.refused[n] == 0) {
             missing.push(format!("refused {n}"));
         }
@@ -107,8 +107,8 @@ const OF_SCRIPTS: [&str; 22] = [
 ];
 
 /// Prints what was done, and answers what was not. What a request adds to the board (command frames, missing readbacks,
-/// the end word, tags) is asked of both kinds of files, which different programs read; ramps and readings in volts, which
-/// no run file asks for, are of scripts alone.
+/// the end word, tags) is asked of both kinds of files, which different programs read; ramps, readings in volts and
+/// downloads, which no run file asks for, are of scripts alone.
 fn done(runs: &Reach, calls: &Reach) -> Vec<String> {
     let mut missing = Vec::new();
     for ((name, in_runs), in_calls) in DID.iter().zip(&runs.did.counts).zip(&calls.did.counts) {

@@ -22,6 +22,8 @@ pub enum Op {
     Poke { readbacks: bool, at: u32, word: u32 },
     Ramp { n: u32, count: u32, codes: u32, remainders: u32 },
     Volts { c: u32, lent: u8 },
+    Download { c: u32, lent: u8 },
+    Portion { c: u32, first: u32, length: u32, is_length: bool, lent: u8 },
     /// A whole record as it stands.
     Raw([u8; 16]),
 }
@@ -52,6 +54,7 @@ fn as_run_record(op: Op, dice: &Dice) -> Option<[u8; 8]> {
         Op::Disarm(c) => run_record(8, c, 0, 0),
         Op::Raw(r) => [r[0], r[1], r[2], r[3], r[4], r[5], r[6], r[7]],
         Op::Retired { .. } | Op::Level | Op::Open { .. } | Op::Poke { .. } | Op::Ramp { .. } | Op::Volts { .. } => return None,
+        Op::Download { .. } | Op::Portion { .. } => return None,
     })
 }
 
@@ -62,6 +65,11 @@ fn script_record(kind: u8, c: u32, lent: u8, buffer: u32, x: u32, y: u32, z: u32
         r[at..at + 4].copy_from_slice(&v.to_le_bytes());
     }
     r
+}
+
+/// For bytes that a kind does not name: mostly 0.
+fn anything(dice: &Dice) -> u32 {
+    if dice.chance(70) { 0 } else { dice.roll() as u32 }
 }
 
 /// The record of a script that asks this; a wrong memory is lent in `spite` percent of them.
@@ -83,11 +91,19 @@ fn as_script_record(op: Op, dice: &Dice, spite: u32) -> [u8; 16] {
         Op::Poke { readbacks, at, word } => script_record(13, readbacks as u32, 0, 0, at, word, 0),
         Op::Ramp { n, count, codes, remainders } => {
             // bytes 1 to 3, and the high 16 bits of y, mean nothing
-            let any = if dice.chance(70) { 0 } else { dice.roll() as u32 };
+            let any = anything(dice);
             let [c, lent, buffer, _] = any.to_le_bytes();
             script_record(14, c as u32, lent, buffer as u32, n, any << 16 | count & 0xFFFF, remainders << 16 | codes & 0xFFFF)
         }
         Op::Volts { c, lent } => script_record(15, c, lent, 0, 0, 0, 0),
+        Op::Download { c, lent } => {
+            let any = anything(dice);
+            script_record(16, c, lent, any, any, any, any)
+        }
+        Op::Portion { c, first, length, is_length, lent } => {
+            let any = anything(dice);
+            script_record(if is_length { 18 } else { 17 }, c, lent, any, first, length, any)
+        }
         Op::Raw(bytes) => bytes,
     }
 }

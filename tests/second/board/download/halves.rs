@@ -1,0 +1,38 @@
+//! Rows that both calls of a portion have to show: the one that answers words, and the one beside it.
+
+use crate::tally::Did;
+
+/// Each with whether a call of words and a call of their number has shown it.
+#[derive(Clone, Default)]
+pub struct Halves(Vec<(Did, [bool; 2])>);
+
+impl Halves {
+    /// A row that is to be shown.
+    pub fn add(&mut self, did: Did) {
+        if !self.0.iter().any(|row| row.0 == did) {
+            self.0.push((did, [false; 2]));
+        }
+    }
+
+    pub fn clear(&mut self) {
+        self.0.clear();
+    }
+
+    /// One of the calls shows this row: whether both have now.
+    pub fn show(&mut self, did: Did, is_length: bool) -> bool {
+        self.add(did);
+        let Some(at) = self.0.iter().position(|row| row.0 == did) else { return false };
+        self.0[at].1[is_length as usize] = true;
+        let is_shown = self.0[at].1 == [true; 2];
+        if is_shown {
+            self.0.remove(at);
+        }
+        is_shown
+    }
+
+    /// One of the calls shows all that are to be shown: those that both have shown now.
+    pub fn show_all(&mut self, is_length: bool) -> Vec<Did> {
+        let rows: Vec<Did> = self.0.iter().map(|row| row.0).collect();
+        rows.into_iter().filter(|did| self.show(*did, is_length)).collect()
+    }
+}
