@@ -33,9 +33,9 @@ use Rattle.channel.specs.OneChannel.{ChannelCall, OneChannel, oneChannel, refus
 use Rattle.channel.specs.OneChannel as call
 use Rattle.channel.proofs.Cases.{either}
 use Rattle.histories.specs.History.{entry, history, asks, endsGroup, resets, opensDownload}
-use Rattle.histories.specs.Keeping.{Kept, Groups, groupsAfter, keptAfter, keptOver}
+use Rattle.histories.specs.Keeping.{Kept, keptAfter, keptOver}
 use Rattle.histories.specs.Ranges.{ChannelInRange}
-use Rattle.histories.specs.Downloads.{openAfter, openSince, openOver, portionOf, lengthOf, Serves, PortionsTold, NoneEnds, DownloadStays}
+use Rattle.histories.specs.Downloads.{openAfter, openSince, openOver, Serves, PortionsTold, NoneEnds, DownloadStays}
 use Rattle.histories.proofs.Accepted.{accepted-answer}
 use Rattle.histories.proofs.Buffered.{toldAt}
 use Rattle.histories.proofs.Cases.{by-offset}

@@ -34,16 +34,16 @@ abbrev pub servedFrom : (isOpen : Bool) (words : List ℕ) (first size : ℕ) �
 servedFrom isOpen words first size result = cond isOpen (cond (leb (first + size) (length words)) result (refused 2)) (refused 12)
 
 -- "Portions give a first index and a length and return those words"; and the twin
-abbrev pub portionOf : (isOpen : Bool) (words : List ℕ) (first size : ℕ) → Answer
-portionOf isOpen words first size = servedFrom isOpen words first size (part (take size (drop first words)))
+abbrev pub portionBy : (isOpen : Bool) (words : List ℕ) (first size : ℕ) → Answer
+portionBy isOpen words first size = servedFrom isOpen words first size (part (take size (drop first words)))
 
-abbrev pub lengthOf : (isOpen : Bool) (words : List ℕ) (first size : ℕ) → Answer
-lengthOf isOpen words first size = servedFrom isOpen words first size (partLength size)
+abbrev pub lengthBy : (isOpen : Bool) (words : List ℕ) (first size : ℕ) → Answer
+lengthBy isOpen words first size = servedFrom isOpen words first size (partLength size)
 
 -- so any portion is answered, lent what fits
 pub record Serves (o : OneChannel) (m : ℕ) (isOpen : Bool) (words : List ℕ) : Type 0 where
-  pub portion : (first size : ℕ) → response o (query (call.portion first size) m m) ≡ portionOf isOpen words first size
-  pub long : (first size : ℕ) → response o (query (call.portionLength first size) m m) ≡ lengthOf isOpen words first size
+  pub portion : (first size : ℕ) → response o (query (call.portion first size) m m) ≡ portionBy isOpen words first size
+  pub long : (first size : ℕ) → response o (query (call.portionLength first size) m m) ≡ lengthBy isOpen words first size
 
 -- from an opening of a fitting length, after any list of calls
 abbrev pub PortionsTold : Type 0

@@ -1,6 +1,6 @@
 -- Portions on the board, told by what each channel is fed, and a download while calls go on: each channel is as it would be alone. Assumes nothing.
 use Prim.Native.Nat.{ℕ, _*_}
-use mathlib.Core.Path.{_≡_, refl, ap, subst, _∙_}
+use mathlib.Core.Path.{refl, ap, subst, _∙_}
 use mathlib.Core.Logic.{inr}
 use mathlib.Core.Bool.{Bool}
 use mathlib.Core.List.{List, [], _∷_, _++_}
@@ -15,9 +15,9 @@ use Rattle.histories.proofs.Downloads.{portions-told as told-alone, download-st
 use Rattle.board_state.specs.Parts.{own}
 use Rattle.board.specs.Answers.{one}
 use Rattle.board.specs.Worlds.{World}
-use Rattle.isolation.specs.Calls.{none, answer, step, worldAfter, opening}
+use Rattle.isolation.specs.Calls.{none, answer, worldAfter, opening}
 use Rattle.isolation.specs.Feeding.{fed}
-use Rattle.isolation.specs.Isolation.{oneChannelAt, downloadOf, Serves, PortionsTold, DownloadStays, DownloadAllowed}
+use Rattle.isolation.specs.Isolation.{oneChannelAt, downloadOpening, Serves, PortionsTold, DownloadStays, DownloadAllowed}
 use Rattle.isolation.proofs.Parts.{Number}
 use Rattle.isolation.proofs.Isolation.{open-own}
 use Rattle.isolation.proofs.Observing.{observe-opening}
@@ -47,7 +47,7 @@ download-stays n m s r opens c low high before later a ends =
     let h : Number c = record { low = low; high = high } in
     let w = worldAfter (opening n m s r) before in
     let o = transitions (oneChannelAt c n m s r) (fed c before) in
-    let x = called-after n m s r opens c h before (downloadOf c) later a to.openDownload (rw (eq-eqb c c refl)) in
+    let x = called-after n m s r opens c h before (downloadOpening c) later a to.openDownload (rw (eq-eqb c c refl)) in
     let q =
     stays-alone n m (own s (n * 16) c) (own r (m * 2) c) (open-own n m s r opens c h .1) (fed c before) (fed c later)
     (subst (λ (p : OneChannel). NoneEnds (history p (fed c later))) (x .called .same) ends) in
@@ -56,9 +56,9 @@ download-stays n m s r opens c low high before later a ends =
       retired-then = query-alone w o c m h (x .at-call) to.retired refl ∙ ap one (q .retired-then);
       answered = ap one (observe-opening w c h none ∙ ap (λ (p : OneChannel). response p to.openDownload) (x .at-call .same) ∙ q .answered);
       serves =
-          serves-alone c m h (worldAfter (opening n m s r) (before ++ (downloadOf c ∷ later))) (transitions (transition o to.openDownload) (fed c later)) _ (q .words)
+          serves-alone c m h (worldAfter (opening n m s r) (before ++ (downloadOpening c ∷ later))) (transitions (transition o to.openDownload) (fed c later)) _ (q .words)
           (x .at-last) (q .serves);
     }
 
 pub download-allowed : DownloadAllowed
-download-allowed n m s r c before a = allowed-more (opening n m s r) before (downloadOf c ∷ []) a (inr refl, tt)
+download-allowed n m s r c before a = allowed-more (opening n m s r) before (downloadOpening c ∷ []) a (inr refl, tt)

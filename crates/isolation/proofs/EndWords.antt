@@ -6,29 +6,26 @@ use mathlib.Core.Bool.{Bool, true, false, not, Bool·not-not}
 use mathlib.Core.List.{List, [], _∷_, _++_}
 use native.Mathlib.Nat.{add-mul, mul-assoc, mul-comm}
 use native.Mathlib.Omega.{arith}
-use lib.ListN.{length, getD, drop}
+use lib.ListN.{getD, drop}
 use lib.Seq.{getD-take, getD-drop}
 use borrow.Author.Tests.{eq-eqb}
 use Rattle.address_map.proofs.Laws.{channel-named}
 use Rattle.status.specs.Bits.{bitOf}
 use Rattle.readback.specs.Storing.{placeOf}
-use Rattle.channel_core.specs.Answers as ans
-use Rattle.channel.specs.OneChannel.{OneChannel, ChannelCall, refusalOf, transition, response, transitions}
+use Rattle.channel.specs.OneChannel.{OneChannel, refusalOf, transition, response, transitions}
 use Rattle.channel.specs.OneChannel as to
 use Rattle.histories.specs.History.{entry, history, endsGroup}
 use Rattle.histories.specs.EndWords.{secondActiveOver, StaysRetired}
 use Rattle.histories.specs.EndWords as alone
-use Rattle.histories.proofs.Depths.{depths-step, depths-kept}
 use Rattle.histories.proofs.EndWords.{end-word-stands as stands-alone, end-word-stays as stays-alone, group-end-accepted as accepted-alone}
 use Rattle.board_state.specs.Parts.{own}
 use Rattle.board.specs.Answers.{one}
-use Rattle.board.specs.Calls.{openAnswer}
 use Rattle.board.specs.Worlds.{World}
-use Rattle.isolation.specs.Calls.{Item, step, Allowed, worldAfter, opening}
-use Rattle.isolation.specs.Feeding.{feeds, fed, view}
+use Rattle.isolation.specs.Calls.{step, worldAfter, opening}
+use Rattle.isolation.specs.Feeding.{fed, view}
 use Rattle.isolation.specs.Isolation.{oneChannelAt, EndWord, EndWordStands, EndWordStays, groupEndOf, groupEndTo, GroupEndAccepted}
 use Rattle.isolation.proofs.Parts.{Number}
-use Rattle.isolation.proofs.Isolation.{along, good-step, good-opening, open-fits, open-own}
+use Rattle.isolation.proofs.Isolation.{good-opening, open-fits, open-own}
 use Rattle.isolation.proofs.Shown.{register-shown}
 use Rattle.isolation.proofs.Alone.{good-after, allowed-more, AsAlone, alone-after, called-after, query-alone}
 

@@ -22,7 +22,7 @@ use Rattle.histories.specs.EndWords.{secondActiveOver, groupRetiredOver, StaysR
 use Rattle.histories.specs.Tags.{marksIn, marksOver}
 use Rattle.histories.specs.Keeping.{keptOver}
 use Rattle.histories.specs.Readings.{repliesOver, readingsBy}
-use Rattle.histories.specs.Downloads.{openOver, portionOf, lengthOf, NoneEnds}
+use Rattle.histories.specs.Downloads.{openOver, portionBy, lengthBy, NoneEnds}
 use Rattle.board_state.specs.declared.Board.{Board}
 use Rattle.board_state.specs.State.{channelAt}
 use Rattle.board_state.specs.Main.{mainStatus}
@@ -220,8 +220,8 @@ ReadingsTold =
 -- document 02, card 8: what any portion of channel c is answered in the world `w`, and its twin, lent the channel's buffers; a download is open or not, and
 -- `words` are those that it is of
 pub record Serves (c : ℕ) (w : World) (isOpen : Bool) (words : List ℕ) : Type 0 where
-  pub portion : (index size : ℕ) → answer (w .board) (query c (to.portion index size)) (ownBuffers w c) ≡ one (portionOf isOpen words index size)
-  pub long : (index size : ℕ) → answer (w .board) (query c (to.portionLength index size)) (ownBuffers w c) ≡ one (lengthOf isOpen words index size)
+  pub portion : (index size : ℕ) → answer (w .board) (query c (to.portion index size)) (ownBuffers w c) ≡ one (portionBy isOpen words index size)
+  pub long : (index size : ℕ) → answer (w .board) (query c (to.portionLength index size)) (ownBuffers w c) ≡ one (lengthBy isOpen words index size)
 
 -- from an opening, over any allowed list: by what the answers to the calls fed to c tell, so "Other channels' Group Ends don't matter."
 abbrev pub PortionsTold : Type 0
@@ -241,8 +241,8 @@ pub record Downloads (c : ℕ) (then now : World) : Type 0 where
   pub serves : Serves c now true words
 
 -- the opening of a download of channel c, which is lent nothing
-abbrev pub downloadOf : ℕ → Item
-downloadOf c = record { call = openDownload c; lent = none }
+abbrev pub downloadOpening : ℕ → Item
+downloadOpening c = record { call = openDownload c; lent = none }
 
 -- from an opening, over any allowed list: any calls; then a download of c is opened; then any calls of which none feeds c a Group End or a reset that takes
 -- place
@@ -251,15 +251,15 @@ DownloadStays =
     (n m : ℕ) (s r : List ℕ)
     → openAnswer n m (length s) (length r) ≡ ans.done
     → (c : ℕ) → 1 ≤ c → c ≤ 4
-    → (before later : List Item) → Allowed (opening n m s r) (before ++ (downloadOf c ∷ later))
+    → (before later : List Item) → Allowed (opening n m s r) (before ++ (downloadOpening c ∷ later))
     → let w = worldAfter (opening n m s r) before in
-    NoneEnds (history (view c (step w (downloadOf c))) (fed c later))
-    → Downloads c w (worldAfter (opening n m s r) (before ++ (downloadOf c ∷ later)))
+    NoneEnds (history (view c (step w (downloadOpening c))) (fed c later))
+    → Downloads c w (worldAfter (opening n m s r) (before ++ (downloadOpening c ∷ later)))
 
 -- after any allowed list one may be opened
 abbrev pub DownloadAllowed : Type 0
 DownloadAllowed =
-    (n m : ℕ) (s r : List ℕ) (c : ℕ) (before : List Item) → Allowed (opening n m s r) before → Allowed (opening n m s r) (before ++ (downloadOf c ∷ []))
+    (n m : ℕ) (s r : List ℕ) (c : ℕ) (before : List Item) → Allowed (opening n m s r) before → Allowed (opening n m s r) (before ++ (downloadOpening c ∷ []))
 
 -- Commands with D2 for channel c, lent the memory of this world; and what c is fed of it
 abbrev pub groupEndOf : ℕ → World → Item
