@@ -1,13 +1,15 @@
--- The part that the retired call gives is that of its answer: the words, or none where it is refused; of a channel in range the board's refusal is the
--- channel's. Assumes nothing.
+-- The part that the retired call gives is that of its answer: the words, or none where it is refused; the board refuses what
+-- the channel does, and numbers that are no channel's. Assumes nothing.
 use Prim.Native.Nat.{ℕ}
-use mathlib.Core.Path.{_≡_, refl}
-use mathlib.Core.Bool.{Bool, true, false}
-use mathlib.Core.List.{List}
+use mathlib.Core.Path.{_≡_, refl, sym, ap, _∙_}
+use mathlib.Core.Bool.{Bool, true, false, cond}
+use mathlib.Core.List.{List, []}
 use lib.ListN.{length}
 use lib.Dec.{eqb}
 use Rattle.channel_core.specs.Answers.{partOf}
+use Rattle.channel_core.proofs.Laws.{part-unless}
 use Rattle.channel.specs.Calls as one
+use Rattle.channel.proofs.Cases.{passed, then-passed}
 use Rattle.board_state.specs.declared.Board.{Board}
 use Rattle.board_state.specs.Checks.{noChannel}
 use Rattle.board_channels.specs.Calls.{retiredRefusal, retiredWords, retiredAnswer}
@@ -21,15 +23,14 @@ same-refusal b number k j named = go (eqb k (b .m)) refl (eqb j (b .m)) refl
     go true p false q = simp (p, q)
     go false p y q = simp (p)
 
+-- where the buffers and the number are passed, the number is a channel's
+pub passed-channel : (b : Board) (number k j : ℕ) → retiredRefusal b number k j ≡ 0 → noChannel number ≡ false
+passed-channel b number k j e = passed (noChannel number) 2 0 refl (then-passed (one.retiredRefusal (b .m) k j) (cond (noChannel number) 2 0) e .1) .0
+
 pub retired-part : (b : Board) (number : ℕ) (s t : List ℕ) → partOf (retiredAnswer b number s t) ≡ retiredWords b number s t
 unfolding retiredAnswer retiredWords one.retiredWords
-retired-part b number s t = go (noChannel number) refl (eqb (length s) (b .m)) refl (eqb (length t) (b .m)) refl
+retired-part b number s t = part-unless (retiredRefusal b number (length s) (length t)) (retiredWords b number s t) (none (noChannel number) refl)
   where
-    go : (n : Bool) → noChannel number ≡ n → (e : Bool) → eqb (length s) (b .m) ≡ e → (f : Bool) → eqb (length t) (b .m) ≡ f
-        → partOf (retiredAnswer b number s t) ≡ retiredWords b number s t
-    go true p true q true o = simp (p, q, o)
-    go true p true q false o = simp (p, q, o)
-    go true p false q f o = simp (p, q)
-    go false p true q true o = simp (p, q, o)
-    go false p true q false o = simp (p, q, o)
-    go false p false q f o = simp (p, q)
+    none : (x : Bool) → noChannel number ≡ x → eqb (retiredRefusal b number (length s) (length t)) 0 ≡ false → retiredWords b number s t ≡ []
+    none true e r = rw e
+    none false e r = rw (e, sym (ap (λ (k : ℕ). eqb k 0) (same-refusal b number (length s) (length t) e)) ∙ r)

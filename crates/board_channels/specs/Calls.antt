@@ -4,7 +4,6 @@ use Prim.Native.Nat.{ℕ}
 use mathlib.Core.Bool.{Bool, true, false, cond}
 use mathlib.Core.List.{List, []}
 use lib.ListN.{length}
-use lib.Dec.{eqb}
 use Rattle.refusal.specs.Refusals.{numberOf}
 use Rattle.refusal.specs.declared.Refusal.the-variants as refusal
 use Rattle.channel_core.specs.Answers.{Answer, unless}
@@ -68,9 +67,7 @@ replyWords b s number f =
 -- ---- Retired readbacks, and the call that answers the number or the part's length
 
 abbrev pub retiredRefusal : Board → ℕ → ℕ → ℕ → ℕ
-retiredRefusal b number first second =
-    cond (eqb (one.retiredRefusal (b .m) first second) 0) (cond (noChannel number) (numberOf refusal.OutOfRange) 0)
-    (one.retiredRefusal (b .m) first second)
+retiredRefusal b number first second = one.then (one.retiredRefusal (b .m) first second) (cond (noChannel number) (numberOf refusal.OutOfRange) 0)
 
 unfoldable pub retiredWords : Board → ℕ → List ℕ → List ℕ → List ℕ
 retiredWords b number first second =

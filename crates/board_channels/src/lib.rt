@@ -5,12 +5,14 @@ use channel::PartLength;
 use channel_core::Outcome;
 use channel_replies::Receipt;
 use refusal::Refusal;
+use refusal::Verdict;
 ghost use mathlib.Core.Path.{_≡_};
 ghost use lib.ListN.{length};
+ghost use Rattle.refusal.specs.Refusals.{verdictNumber};
 ghost use Rattle.channel_core.specs.Answers.{outcomeOf, partOf};
 ghost use Rattle.channel_replies.specs.Answers.{receiptOf};
 ghost use Rattle.channel.specs.Answers.{lengthOf};
-ghost use Rattle.board_channels.specs.Calls.{setpointAnswer, setpointWords, setArmed, armBoard, disarmBoard, armAnswer, replyBoard, replyAnswer, replyWords, retiredAnswer, retiredLength};
+ghost use Rattle.board_channels.specs.Calls.{setpointAnswer, setpointWords, setArmed, armBoard, disarmBoard, armAnswer, replyBoard, replyAnswer, replyWords, retiredRefusal, retiredAnswer, retiredLength};
 
 // The board after a reply, and what became of it.
 pub struct Received {
@@ -112,6 +114,22 @@ pub fn reply(b: Board, readbacks: &mut [u32], number: u32, frame: u64) -> Receiv
     }
 }
 
+// Whether a call is refused that is lent the named channel's two readback buffers: their lengths, then the number.
+pub fn check_buffers(b: Board, number: u32, one: usize, two: usize) -> Verdict
+    ensures { λ r. ⌜ verdictNumber r ≡ retiredRefusal b number one two ⌝ }
+{
+    let verdict = channel::check_buffers(b.m, one, two);
+    match verdict {
+        Verdict::Allowed => {
+            if channel::is_outside(1, 4, number) {
+                return Verdict::Refused(Refusal::OutOfRange);
+            }
+            Verdict::Allowed
+        }
+        Verdict::Refused(refusal) => Verdict::Refused(refusal),
+    }
+}
+
 // The retired part of the named channel, of the two buffers lent; empty where refused.
 pub fn retired<'a>(b: Board, number: u32, one: &'a [u32], two: &'a [u32]) -> &'a [u32]
     ensures { λ r. ⌜ now r ≡ partOf (retiredAnswer b number (now (one .entry)) (now (two .entry))) ⌝ }
@@ -126,15 +144,9 @@ pub fn retired<'a>(b: Board, number: u32, one: &'a [u32], two: &'a [u32]) -> &'a
 pub fn retired_length<'a>(b: Board, number: u32, one: &'a [u32], two: &'a [u32]) -> PartLength
     ensures { λ r. ⌜ lengthOf r ≡ retiredLength b number (now (one .entry)) (now (two .entry)) ⌝ }
 {
-    let m = b.m;
-    if one.len() != m as usize {
-        return PartLength::Refused(Refusal::SizeMismatch);
+    let verdict = check_buffers(b, number, one.len(), two.len());
+    match verdict {
+        Verdict::Allowed => channel::retired_length(b.channel(number as u8), b.m, one, two),
+        Verdict::Refused(refusal) => PartLength::Refused(refusal),
     }
-    if two.len() != m as usize {
-        return PartLength::Refused(Refusal::SizeMismatch);
-    }
-    if channel::is_outside(1, 4, number) {
-        return PartLength::Refused(Refusal::OutOfRange);
-    }
-    channel::retired_length(b.channel(number as u8), m, one, two)
 }

@@ -1,1 +1,2 @@
 pub mod Portions
+pub mod Order

@@ -25,16 +25,16 @@ openingAnswer b number = cond (noChannel number) outOfRange (one.openingAnswer (
 -- ---- A portion, and the call that answers the number or the part's length
 
 -- "on the terms of a retired-readbacks call": 1, then 2 for the channel; then 12, which is "checked after the channel and before the range", then 2
-abbrev pub portionRefusal : Board → (number first size k j : ℕ) → ℕ
-portionRefusal b number first size k j = then (retiredRefusal b number k j) (download.portionRefusal (channelAt b number .download) first size)
+abbrev pub portionRefusal : Board → (number index size k j : ℕ) → ℕ
+portionRefusal b number index size k j = then (retiredRefusal b number k j) (download.portionRefusal (channelAt b number .download) index size)
 
-unfoldable pub portionWords : Board → (number first size : ℕ) → (s t : List ℕ) → List ℕ
-portionWords b number first size s t = cond (noChannel number) [] (one.portionWords (channelAt b number) (b .m) first size s t)
+unfoldable pub portionWords : Board → (number index size : ℕ) → (s t : List ℕ) → List ℕ
+portionWords b number index size s t = cond (noChannel number) [] (one.portionWords (channelAt b number) (b .m) index size s t)
 
-unfoldable pub portionAnswer : Board → (number first size : ℕ) → (s t : List ℕ) → Answer
-portionAnswer b number first size s t =
-    unless (portionRefusal b number first size (length s) (length t)) (ans.part (portionWords b number first size s t))
+unfoldable pub portionAnswer : Board → (number index size : ℕ) → (s t : List ℕ) → Answer
+portionAnswer b number index size s t =
+    unless (portionRefusal b number index size (length s) (length t)) (ans.part (portionWords b number index size s t))
 
-unfoldable pub portionLength : Board → (number first size : ℕ) → (s t : List ℕ) → Answer
-portionLength b number first size s t =
-    unless (portionRefusal b number first size (length s) (length t)) (ans.partLength (length (portionWords b number first size s t)))
+unfoldable pub portionLength : Board → (number index size : ℕ) → (s t : List ℕ) → Answer
+portionLength b number index size s t =
+    unless (portionRefusal b number index size (length s) (length t)) (ans.partLength (length (portionWords b number index size s t)))

@@ -2,6 +2,7 @@
 use board_state::Board;
 use channel::PartLength;
 use refusal::Refusal;
+use refusal::Verdict;
 ghost use mathlib.Core.Path.{_≡_};
 ghost use Rattle.channel_core.specs.Answers.{partOf};
 ghost use Rattle.channel.specs.Answers.{lengthOf};
@@ -33,43 +34,39 @@ pub fn open(b: Board, number: u32) -> Opened
     }
 }
 
-// So many words of the named channel's download from `first` on, of the two buffers lent; empty where refused.
+// `size` words of the named channel's download, from `index` on, of the inactive one of the two buffers lent; empty where refused.
 pub fn portion<'a>(
     b: Board,
     number: u32,
-    first: u32,
+    index: u32,
     size: u32,
     one: &'a [u32],
     two: &'a [u32],
 ) -> &'a [u32]
-    ensures { λ r. ⌜ now r ≡ partOf (portionAnswer b number first size (now (one .entry)) (now (two .entry))) ⌝ }
+    ensures { λ r. ⌜ now r ≡ partOf (portionAnswer b number index size (now (one .entry)) (now (two .entry))) ⌝ }
 {
     if channel::is_outside(1, 4, number) {
         return &one[..0];
     }
-    channel::download::portion(b.channel(number as u8), b.m, first, size, one, two)
+    channel::download::portion(b.channel(number as u8), b.m, index, size, one, two)
 }
 
 // The length of what `portion` gives, or the refusal.
 pub fn portion_length<'a>(
     b: Board,
     number: u32,
-    first: u32,
+    index: u32,
     size: u32,
     one: &'a [u32],
     two: &'a [u32],
 ) -> PartLength
-    ensures { λ r. ⌜ lengthOf r ≡ portionLength b number first size (now (one .entry)) (now (two .entry)) ⌝ }
+    ensures { λ r. ⌜ lengthOf r ≡ portionLength b number index size (now (one .entry)) (now (two .entry)) ⌝ }
 {
-    let m = b.m;
-    if one.len() != m as usize {
-        return PartLength::Refused(Refusal::SizeMismatch);
+    let verdict = board_channels::check_buffers(b, number, one.len(), two.len());
+    match verdict {
+        Verdict::Allowed => {
+            channel::download::portion_length(b.channel(number as u8), b.m, index, size, one, two)
+        }
+        Verdict::Refused(refusal) => PartLength::Refused(refusal),
     }
-    if two.len() != m as usize {
-        return PartLength::Refused(Refusal::SizeMismatch);
-    }
-    if channel::is_outside(1, 4, number) {
-        return PartLength::Refused(Refusal::OutOfRange);
-    }
-    channel::download::portion_length(b.channel(number as u8), m, first, size, one, two)
 }

@@ -4,7 +4,8 @@ use mathlib.Core.Path.{_≡_, refl, sym, _∙_}
 use mathlib.Core.Bool.{Bool, true, false, cond}
 use native.Mathlib.Omega.{arith}
 use lib.Dec.{eqb}
-use borrow.Author.Tests.{eq-eqb}
+use borrow.Author.Tests.{eqb-true, eq-eqb}
+use Rattle.channel.specs.Calls.{then}
 
 -- false is not true
 pub clash : {A : Type 0} → false ≡ true → A
@@ -28,3 +29,11 @@ passed false k x n e = (refl, e)
 pub let-on : (b : Bool) (k x : ℕ) → eqb k 0 ≡ false → cond b x k ≡ 0 → (b ≡ true) × (x ≡ 0)
 let-on true k x n e = (refl, e)
 let-on false k x n e = clash (sym n ∙ eq-eqb k 0 e)
+
+-- two refusals, one after the other: passed, neither applied
+pub then-passed : (first second : ℕ) → then first second ≡ 0 → (first ≡ 0) × (second ≡ 0)
+then-passed first second = go (eqb first 0) refl
+  where
+    go : (b : Bool) → eqb first 0 ≡ b → cond b second first ≡ 0 → (first ≡ 0) × (second ≡ 0)
+    go true e f = (eqb-true first 0 e, f)
+    go false e f = clash (sym e ∙ eq-eqb first 0 f)

@@ -6,7 +6,7 @@ use Rattle.channel_core.specs.Answers as ans
 use Rattle.channel.specs.declared.PartLength.{PartLength}
 use Rattle.channel.specs.declared.PartLength.the-variants as long
 
--- the answer of the call beside retired readbacks
+-- the answer of the calls beside retired readbacks and a portion, and of the opening of a download
 abbrev pub lengthOf : PartLength → Answer
 lengthOf (long.Words k) = ans.partLength k
 lengthOf (long.Refused k) = ans.refused (numberOf k)

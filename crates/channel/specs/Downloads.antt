@@ -22,19 +22,19 @@ abbrev pub openingAnswer : Channel → Answer
 openingAnswer c = ans.partLength (c .readbacks .retired)
 
 -- "A portion is lent the channel's two buffers on the terms of a retired-readbacks call.": 1; then 12, then 2
-abbrev pub portionRefusal : Channel → (m first size one two : ℕ) → ℕ
-portionRefusal c m first size one two = then (retiredRefusal m one two) (download.portionRefusal (c .download) first size)
+abbrev pub portionRefusal : Channel → (m index size one two : ℕ) → ℕ
+portionRefusal c m index size one two = then (retiredRefusal m one two) (download.portionRefusal (c .download) index size)
 
 -- the retired part of these buffers, by the count that the download remembers
 abbrev pub downloadPart : Channel → (one two : List ℕ) → List ℕ
 downloadPart c one two = retiredPart (secondActive (c .registers) readbackPlace) (c .download .count) one two
 
 -- "the empty part when refused"
-unfoldable pub portionWords : Channel → (m first size : ℕ) → (one two : List ℕ) → List ℕ
-portionWords c m first size one two =
-    cond (eqb (portionRefusal c m first size (length one) (length two)) 0) (portionOf (downloadPart c one two) first size) []
+unfoldable pub portionWords : Channel → (m index size : ℕ) → (one two : List ℕ) → List ℕ
+portionWords c m index size one two =
+    cond (eqb (portionRefusal c m index size (length one) (length two)) 0) (portionOf (downloadPart c one two) index size) []
 
 -- what document 01 calls its twin: "answers the number or the part's length"
-unfoldable pub portionLength : Channel → (m first size : ℕ) → (one two : List ℕ) → Answer
-portionLength c m first size one two =
-    unless (portionRefusal c m first size (length one) (length two)) (ans.partLength (length (portionWords c m first size one two)))
+unfoldable pub portionLength : Channel → (m index size : ℕ) → (one two : List ℕ) → Answer
+portionLength c m index size one two =
+    unless (portionRefusal c m index size (length one) (length two)) (ans.partLength (length (portionWords c m index size one two)))

@@ -33,9 +33,9 @@ pub data Query : Type 0 where
   retiredLength : Query
   -- document 02, card 7: the readings of its last setpoint send, lent nothing
   readings : Query
-  -- document 02, card 8: a portion of its download, so many words from `first` on, and the twin
-  portion : (first size : ℕ) → Query
-  portionLength : (first size : ℕ) → Query
+  -- document 02, card 8: a portion of its download, `size` words from `index` on, and the twin
+  portion : (index size : ℕ) → Query
+  portionLength : (index size : ℕ) → Query
 
 -- the calls that name the channel, then the shared ones. `lent`, `one`, `two` are the lengths of what the call is lent.
 pub data ChannelCall : Type 0 where
@@ -99,8 +99,8 @@ abbrev pub queryRefusal : OneChannel → Query → (one two : ℕ) → ℕ
 queryRefusal o retired one two = retiredRefusal (o .m) one two
 queryRefusal o retiredLength one two = retiredRefusal (o .m) one two
 queryRefusal o readings one two = 0
-queryRefusal o (portion first size) one two = portionRefusal (o .channel) (o .m) first size one two
-queryRefusal o (portionLength first size) one two = portionRefusal (o .channel) (o .m) first size one two
+queryRefusal o (portion index size) one two = portionRefusal (o .channel) (o .m) index size one two
+queryRefusal o (portionLength index size) one two = portionRefusal (o .channel) (o .m) index size one two
 
 unfoldable pub refusalOf : OneChannel → ChannelCall → ℕ
 refusalOf o (writeRegister lent offset value) = then (lengthRefusal lent (o .m * 8)) (registerRefusal (o .channel) offset value)
@@ -161,8 +161,8 @@ unfoldable pub retiredOf : OneChannel → List ℕ
 retiredOf o = retiredPart (secondActive (o .channel .registers) readbackPlace) (o .channel .readbacks .retired) (bufferOne o) (bufferTwo o)
 
 -- a portion of its download, of its own buffers
-unfoldable pub portionIn : OneChannel → (first size : ℕ) → List ℕ
-portionIn o first size = portionOf (downloadPart (o .channel) (bufferOne o) (bufferTwo o)) first size
+unfoldable pub portionIn : OneChannel → (index size : ℕ) → List ℕ
+portionIn o index size = portionOf (downloadPart (o .channel) (bufferOne o) (bufferTwo o)) index size
 
 -- a read of 28 or 2A answers the channel its bit there, another Main use only that it was done
 abbrev pub mainAnswer : Channel → ℕ → Answer
@@ -173,8 +173,8 @@ abbrev pub queryAnswer : OneChannel → Query → Answer
 queryAnswer o retired = ans.part (retiredOf o)
 queryAnswer o retiredLength = ans.partLength (length (retiredOf o))
 queryAnswer o readings = readingsAnswer (o .channel)
-queryAnswer o (portion first size) = ans.part (portionIn o first size)
-queryAnswer o (portionLength first size) = ans.partLength (length (portionIn o first size))
+queryAnswer o (portion index size) = ans.part (portionIn o index size)
+queryAnswer o (portionLength index size) = ans.partLength (length (portionIn o index size))
 
 unfoldable pub answer : OneChannel → ChannelCall → Answer
 answer o (writeRegister lent offset value) = ans.done

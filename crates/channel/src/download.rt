@@ -1,14 +1,13 @@
 // The download of a channel: opened, and its portions, of the two readback buffers lent.
 use crate::PartLength;
+use crate::check_buffers;
 use channel_core::Channel;
 use downloads::Download;
-use refusal::Refusal;
 use refusal::Verdict;
 ghost use mathlib.Core.Path.{_≡_};
 ghost use Rattle.refusal.specs.Refusals.{verdictNumber};
-ghost use Rattle.channel_core.specs.Answers.{partLength};
 ghost use Rattle.channel.specs.Answers.{lengthOf};
-ghost use Rattle.channel.specs.Downloads.{downloadOpened, openingAnswer, portionRefusal, portionWords, portionLength};
+ghost use Rattle.channel.specs.Downloads.{downloadOpened, portionRefusal, portionWords, portionLength};
 
 // A channel after its download was opened, and the count that it remembers.
 pub struct Opened {
@@ -17,7 +16,7 @@ pub struct Opened {
 }
 
 pub fn open(c: Channel) -> Opened
-    ensures { λ r. ⌜ (r .channel ≡ downloadOpened c) × (partLength (r .count) ≡ openingAnswer c) ⌝ }
+    ensures { λ r. ⌜ (r .channel ≡ downloadOpened c) × (r .count ≡ c .readbacks .retired) ⌝ }
 {
     let readbacks = c.readbacks;
     let count = readbacks.retired;
@@ -30,38 +29,38 @@ pub fn open(c: Channel) -> Opened
 }
 
 // Whether a portion is refused: the lengths of the two buffers, then the download, then the range.
-fn check(c: Channel, m: u32, first: u32, size: u32, one: usize, two: usize) -> Verdict
-    ensures { λ r. ⌜ verdictNumber r ≡ portionRefusal c m first size one two ⌝ }
+fn check(c: Channel, m: u32, index: u32, size: u32, one: usize, two: usize) -> Verdict
+    ensures { λ r. ⌜ verdictNumber r ≡ portionRefusal c m index size one two ⌝ }
 {
-    if one != m as usize {
-        return Verdict::Refused(Refusal::SizeMismatch);
+    let verdict = check_buffers(m, one, two);
+    match verdict {
+        Verdict::Allowed => {
+            let download = c.download;
+            download.check(index, size)
+        }
+        Verdict::Refused(refusal) => Verdict::Refused(refusal),
     }
-    if two != m as usize {
-        return Verdict::Refused(Refusal::SizeMismatch);
-    }
-    let download = c.download;
-    download.check(first, size)
 }
 
-// So many words of the download from `first` on; empty where refused.
+// `size` words of the download, from `index` on, of the inactive one of the two buffers lent; empty where refused.
 pub fn portion<'a>(
     c: Channel,
     m: u32,
-    first: u32,
+    index: u32,
     size: u32,
     one: &'a [u32],
     two: &'a [u32],
 ) -> &'a [u32]
-    ensures { λ r. ⌜ now r ≡ portionWords c m first size (now (one .entry)) (now (two .entry)) ⌝ }
+    ensures { λ r. ⌜ now r ≡ portionWords c m index size (now (one .entry)) (now (two .entry)) ⌝ }
 {
-    let verdict = check(c, m, first, size, one.len(), two.len());
+    let verdict = check(c, m, index, size, one.len(), two.len());
     match verdict {
         Verdict::Allowed => {
             let registers = c.registers;
             let download = c.download;
             let second = registers.readback_second_active();
             let part = readback::retired_part(second, download.count, one, two);
-            downloads::portion(part, first, size)
+            downloads::portion(part, index, size)
         }
         Verdict::Refused(_) => &one[..0],
     }
@@ -71,17 +70,17 @@ pub fn portion<'a>(
 pub fn portion_length<'a>(
     c: Channel,
     m: u32,
-    first: u32,
+    index: u32,
     size: u32,
     one: &'a [u32],
     two: &'a [u32],
 ) -> PartLength
-    ensures { λ r. ⌜ lengthOf r ≡ portionLength c m first size (now (one .entry)) (now (two .entry)) ⌝ }
+    ensures { λ r. ⌜ lengthOf r ≡ portionLength c m index size (now (one .entry)) (now (two .entry)) ⌝ }
 {
-    let verdict = check(c, m, first, size, one.len(), two.len());
+    let verdict = check(c, m, index, size, one.len(), two.len());
     match verdict {
         Verdict::Allowed => {
-            let part = portion(c, m, first, size, one, two);
+            let part = portion(c, m, index, size, one, two);
             PartLength::Words(part.len())
         }
         Verdict::Refused(refusal) => PartLength::Refused(refusal),

@@ -11,9 +11,9 @@ ghost use mathlib.Core.Path.{_≡_};
 ghost use Rattle.refusal.specs.Refusals.{verdictNumber};
 ghost use Rattle.channel_core.specs.Answers.{outcomeOf};
 ghost use Rattle.channel.specs.Answers.{lengthOf};
-ghost use Rattle.channel.specs.Calls.{outside, activeBuffer, setpointRefusal, setpointAnswer, setpointWords, setArmed, retiredWords, retiredLength, mainBit, mainTaken};
+ghost use Rattle.channel.specs.Calls.{outside, activeBuffer, setpointRefusal, setpointAnswer, setpointWords, setArmed, retiredRefusal, retiredWords, retiredLength, mainBit, mainTaken};
 
-// The answer of the call beside retired readbacks.
+// The length of a part, of which one call gives the words and the call beside it this; and what a download has.
 pub enum PartLength {
     Words(usize),
     Refused(Refusal),
@@ -108,34 +108,47 @@ pub fn set_armed(c: Channel, on: bool) -> Channel
     next
 }
 
+// Whether a call is refused that is lent two readback buffers: both are to be of the depth.
+pub fn check_buffers(m: u32, one: usize, two: usize) -> Verdict
+    ensures { λ r. ⌜ verdictNumber r ≡ retiredRefusal m one two ⌝ }
+{
+    if one != m as usize {
+        return Verdict::Refused(Refusal::SizeMismatch);
+    }
+    if two != m as usize {
+        return Verdict::Refused(Refusal::SizeMismatch);
+    }
+    Verdict::Allowed
+}
+
 // The stored part of the inactive readback buffer; empty where the two buffers are not of the depth.
 pub fn retired<'a>(c: Channel, m: u32, one: &'a [u32], two: &'a [u32]) -> &'a [u32]
     ensures { λ r. ⌜ now r ≡ retiredWords c m (now (one .entry)) (now (two .entry)) ⌝ }
 {
-    if one.len() != m as usize {
-        return &one[..0];
+    let verdict = check_buffers(m, one.len(), two.len());
+    match verdict {
+        Verdict::Allowed => {
+            let registers = c.registers;
+            let readbacks = c.readbacks;
+            let second = registers.readback_second_active();
+            readback::retired_part(second, readbacks.retired, one, two)
+        }
+        Verdict::Refused(_) => &one[..0],
     }
-    if two.len() != m as usize {
-        return &two[..0];
-    }
-    let registers = c.registers;
-    let readbacks = c.readbacks;
-    let second = registers.readback_second_active();
-    readback::retired_part(second, readbacks.retired, one, two)
 }
 
 // The length of what `retired` gives, or the refusal.
 pub fn retired_length<'a>(c: Channel, m: u32, one: &'a [u32], two: &'a [u32]) -> PartLength
     ensures { λ r. ⌜ lengthOf r ≡ retiredLength c m (now (one .entry)) (now (two .entry)) ⌝ }
 {
-    if one.len() != m as usize {
-        return PartLength::Refused(Refusal::SizeMismatch);
+    let verdict = check_buffers(m, one.len(), two.len());
+    match verdict {
+        Verdict::Allowed => {
+            let part = retired(c, m, one, two);
+            PartLength::Words(part.len())
+        }
+        Verdict::Refused(refusal) => PartLength::Refused(refusal),
     }
-    if two.len() != m as usize {
-        return PartLength::Refused(Refusal::SizeMismatch);
-    }
-    let part = retired(c, m, one, two);
-    PartLength::Words(part.len())
 }
 
 // The channel's bit in Main's Interrupt Status or Polling Status, which clears there.

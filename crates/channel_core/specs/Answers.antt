@@ -43,7 +43,7 @@ none = other result.none
 abbrev pub unsolicited : Answer
 unsolicited = other result.unsolicited
 
--- the length of a part
+-- the length of a part, or the count that a download remembers
 abbrev pub partLength : ℕ → Answer
 partLength k = other (result.partLength k)
 
@@ -99,7 +99,7 @@ isReceived (other r) = false
 
 -- ---- The part in an answer
 
--- the words that a call with this answer gives itself: "the empty part when refused"
+-- the part that a call with this answer returns: "the empty part when refused"
 abbrev pub partOf : Answer → List ℕ
 partOf (refused k) = []
 partOf (value v) = []

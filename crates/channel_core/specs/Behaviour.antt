@@ -1,6 +1,6 @@
 -- Document 01, 'A channel's life': what a channel does, over its own part of the lent memory (16 × N setpoint words, 2 × M readback words).
 -- Document 02, card 1: command frames, at a tick and a Group End; card 2: what a setpoint send latches for the send before it; card 3: an end word at
--- every Group End; card 6: tags; card 8: what ends a download.
+-- every Group End; card 6: tags; card 8: a Group End ends the download.
 use Prim.Native.Nat.{ℕ, _+_, _-_, _*_, _%_}
 use mathlib.Core.Bool.{Bool, true, false, cond}
 use mathlib.Core.List.{List}

@@ -18,7 +18,7 @@ pub data Result : Type 0 where
   none : Result
   -- a reply that is document 01's "unasked"
   unsolicited : Result
-  -- the length of a part
+  -- the length of a part, or the count that a download remembers
   partLength : ℕ → Result
   -- the four readings of a send, by its third to sixth replies
   readings : (third fourth fifth sixth : AdcReading) → Result

@@ -38,19 +38,24 @@ reset c =
     record { status = st.reset (c .status); registers = reg.opened; sequencer = seq.opened; readbacks = rb.opened; adc = noneArrived; download = noDownload; commands = cmd.opened }
 
 abbrev pub withStatus : Channel → Status → Channel
-withStatus c s = record { status = s; registers = c .registers; sequencer = c .sequencer; readbacks = c .readbacks; adc = c .adc; download = c .download; commands = c .commands }
+withStatus c s =
+    record { status = s; registers = c .registers; sequencer = c .sequencer; readbacks = c .readbacks; adc = c .adc; download = c .download; commands = c .commands }
 
 abbrev pub withRegisters : Channel → Registers → Channel
-withRegisters c r = record { status = c .status; registers = r; sequencer = c .sequencer; readbacks = c .readbacks; adc = c .adc; download = c .download; commands = c .commands }
+withRegisters c r =
+    record { status = c .status; registers = r; sequencer = c .sequencer; readbacks = c .readbacks; adc = c .adc; download = c .download; commands = c .commands }
 
 abbrev pub withSequencer : Channel → Sequencer → Channel
-withSequencer c s = record { status = c .status; registers = c .registers; sequencer = s; readbacks = c .readbacks; adc = c .adc; download = c .download; commands = c .commands }
+withSequencer c s =
+    record { status = c .status; registers = c .registers; sequencer = s; readbacks = c .readbacks; adc = c .adc; download = c .download; commands = c .commands }
 
 abbrev pub withReadbacks : Channel → Readbacks → Channel
-withReadbacks c b = record { status = c .status; registers = c .registers; sequencer = c .sequencer; readbacks = b; adc = c .adc; download = c .download; commands = c .commands }
+withReadbacks c b =
+    record { status = c .status; registers = c .registers; sequencer = c .sequencer; readbacks = b; adc = c .adc; download = c .download; commands = c .commands }
 
 abbrev pub withAdc : Channel → AdcWords → Channel
-withAdc c w = record { status = c .status; registers = c .registers; sequencer = c .sequencer; readbacks = c .readbacks; adc = w; download = c .download; commands = c .commands }
+withAdc c w =
+    record { status = c .status; registers = c .registers; sequencer = c .sequencer; readbacks = c .readbacks; adc = w; download = c .download; commands = c .commands }
 
 abbrev pub withDownload : Channel → Download → Channel
 withDownload c d =

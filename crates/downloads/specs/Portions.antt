@@ -18,10 +18,10 @@ downloadOf count = record { opened = true; count = count }
 
 -- 12, which document 02 calls "overtaken": "a portion with no download open; checked after the channel and before the range"; then 2: "A portion whose end
 -- is past the count is refused 2." The end is a whole number, however large. "Length 0 is allowed.": it ends where it begins
-abbrev pub portionRefusal : Download → (first size : ℕ) → ℕ
-portionRefusal d first size =
-    cond (d .opened) (cond (ltb (d .count) (first + size)) (numberOf refusal.OutOfRange) 0) (numberOf refusal.NoDownload)
+abbrev pub portionRefusal : Download → (index size : ℕ) → ℕ
+portionRefusal d index size =
+    cond (d .opened) (cond (ltb (d .count) (index + size)) (numberOf refusal.OutOfRange) 0) (numberOf refusal.NoDownload)
 
 -- "Portions give a first index and a length and return those words"
-abbrev pub portionOf : (part : List ℕ) (first size : ℕ) → List ℕ
-portionOf part first size = take size (drop first part)
+abbrev pub portionOf : (part : List ℕ) (index size : ℕ) → List ℕ
+portionOf part index size = take size (drop index part)

@@ -7,15 +7,15 @@ ghost use Rattle.downloads.specs.Portions.{noDownload, downloadOf, porti
 
 pub struct Download {
     pub opened: bool,
-    // How many words it has; 0 where none is open.
+    // How many words it has.
     pub count: u32,
 }
 
-// The words of a part from `first` on, so many of them, or as many as there are.
-pub fn portion<'a>(part: &'a [u32], first: u32, size: u32) -> &'a [u32]
-    ensures { λ r. ⌜ now r ≡ portionOf (now (part .entry)) first size ⌝ }
+// At most `size` words of a part, from `index` on.
+pub fn portion<'a>(part: &'a [u32], index: u32, size: u32) -> &'a [u32]
+    ensures { λ r. ⌜ now r ≡ portionOf (now (part .entry)) index size ⌝ }
 {
-    let start = first as usize;
+    let start = index as usize;
     let end = start + size as usize;
     if end <= part.len() {
         return &part[start..end];
@@ -46,14 +46,14 @@ impl Download {
     }
 
     // Whether a portion is refused: with none open, then where its end is past the count.
-    pub fn check(self, first: u32, size: u32) -> Verdict
-        ensures { λ r. ⌜ verdictNumber r ≡ portionRefusal self first size ⌝ }
+    pub fn check(self, index: u32, size: u32) -> Verdict
+        ensures { λ r. ⌜ verdictNumber r ≡ portionRefusal self index size ⌝ }
     {
         if !self.opened {
             return Verdict::Refused(Refusal::NoDownload);
         }
-        // Neither fits into 32 bits where both are large.
-        if (self.count as u64) < first as u64 + size as u64 {
+        // The sum of two numbers of 32 bits may need 33.
+        if (self.count as u64) < index as u64 + size as u64 {
             return Verdict::Refused(Refusal::OutOfRange);
         }
         Verdict::Allowed

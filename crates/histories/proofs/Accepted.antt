@@ -1,6 +1,6 @@
 -- What a call that is not refused answers is no refusal. Assumes nothing.
 use Prim.Native.Nat.{ℕ, _*_}
-use mathlib.Core.Path.{_≡_, refl, sym, _∙_, ap}
+use mathlib.Core.Path.{_≡_, refl, sym, ap}
 use mathlib.Core.Bool.{Bool, true, false, cond}
 use native.Mathlib.Omega.{arith}
 use lib.Dec.{eqb}
@@ -19,21 +19,12 @@ use Rattle.channel_core.specs.Answers as ans
 use Rattle.channel_core.specs.Behaviour.{tickLine, playedOf, tickAnswer}
 use Rattle.channel_readings.specs.Measuring.{readingsAnswer}
 use Rattle.channel_replies.specs.Replying.{dispositionNow, receiptAnswer, replyAnswerAs, replyAnswer}
-use Rattle.channel.specs.Calls.{then}
 use Rattle.channel.specs.OneChannel.{Query, ChannelCall, OneChannel, lengthRefusal, framingRefusal, refusalOf, queryAnswer, mainAnswer, answer}
 use Rattle.channel.specs.OneChannel as call
-use Rattle.channel.proofs.Cases.{clash, either}
+use Rattle.channel.proofs.Cases.{either, then-passed}
 
 abbrev pub NoRefusal : Answer → Type 0
 NoRefusal a = isRefusal a ≡ false
-
--- two refusals, one after the other: passed, neither applied
-pub then-passed : (first second : ℕ) → then first second ≡ 0 → (first ≡ 0) × (second ≡ 0)
-then-passed first second = go (eqb first 0) refl
-  where
-    go : (b : Bool) → eqb first 0 ≡ b → cond b second first ≡ 0 → (first ≡ 0) × (second ≡ 0)
-    go true e f = (eqb-true first 0 e, f)
-    go false e f = clash (sym e ∙ eq-eqb first 0 f)
 
 disposition-accepted : (d : Disposition) → NoRefusal (receiptAnswer d)
 disposition-accepted disposition.Unsolicited = refl
@@ -67,8 +58,8 @@ unfolding readingsAnswer
 query-plain o call.retired = (refl, refl, refl)
 query-plain o call.retiredLength = (refl, refl, refl)
 query-plain o call.readings = (refl, refl, refl)
-query-plain o (call.portion first size) = (refl, refl, refl)
-query-plain o (call.portionLength first size) = (refl, refl, refl)
+query-plain o (call.portion index size) = (refl, refl, refl)
+query-plain o (call.portionLength index size) = (refl, refl, refl)
 
 -- nor is what answers a reply a frame
 pub reply-plain : (c : Channel) (m f : ℕ) → isFrame (replyAnswer c m f) ≡ false

@@ -136,43 +136,46 @@ opened-from o (k ∷ ks) =
 
 module _ (o : OneChannel) (m : ℕ) (g : Kept) (d : o .m ≡ m) (l : length (o .readbacks) ≡ m * 2) (r : ChannelInRange (o .m) (o .channel)) (h : HoldsIn o g) where
   -- an open download is of the retired part
-  part-held : o .channel .download .opened ≡ true → (first size : ℕ) → portionIn o first size ≡ take size (drop first (g .retired))
+  count-retired : o .channel .download .opened ≡ true → o .channel .download .count ≡ o .channel .readbacks .retired
+  count-retired e = r .download ∙ ap (λ (b : Bool). cond b (o .channel .readbacks .retired) 0) e
+
+  part-held : o .channel .download .opened ≡ true → (index size : ℕ) → portionIn o index size ≡ take size (drop index (g .retired))
   unfolding portionIn retiredOf
-  part-held e first size =
+  part-held e index size =
       ap
       (λ (k : ℕ).
-      portions.portionOf (retiredPart (secondActive (o .channel .registers) readbackPlace) k (bufferOne o) (bufferTwo o)) first size) (r .download e)
-      ∙ ap (λ (s : List ℕ). take size (drop first s)) (retired-held o m g d l r h)
+      portions.portionOf (retiredPart (secondActive (o .channel .registers) readbackPlace) k (bufferOne o) (bufferTwo o)) index size) (count-retired e)
+      ∙ ap (λ (s : List ℕ). take size (drop index s)) (retired-held o m g d l r h)
 
   count-held : o .channel .download .opened ≡ true → o .channel .download .count ≡ length (g .retired)
-  count-held e = r .download e ∙ h .retired
+  count-held e = count-retired e ∙ h .retired
 
-  served : (tell : List ℕ → Answer) (result : Answer) (first size : ℕ)
-      → (first + size ≤ length (g .retired) → tell (take size (drop first (g .retired))) ≡ result) → (b : Bool) → o .channel .download .opened ≡ b
-      → let k = portions.portionRefusal (o .channel .download) first size in
-      cond (eqb k 0) (tell (portionIn o first size)) (refused k) ≡ cond b (cond (leb (first + size) (length (g .retired))) result (refused 2)) (refused 12)
-  served tell result first size same false e = rw e
-  served tell result first size same true e =
-      rw (part-held e first size, e, count-held e) (go (leb (first + size) (length (g .retired))) refl)
+  served : (tell : List ℕ → Answer) (result : Answer) (index size : ℕ)
+      → (index + size ≤ length (g .retired) → tell (take size (drop index (g .retired))) ≡ result) → (b : Bool) → o .channel .download .opened ≡ b
+      → let k = portions.portionRefusal (o .channel .download) index size in
+      cond (eqb k 0) (tell (portionIn o index size)) (refused k) ≡ cond b (cond (leb (index + size) (length (g .retired))) result (refused 2)) (refused 12)
+  served tell result index size same false e = rw e
+  served tell result index size same true e =
+      rw (part-held e index size, e, count-held e) (go (leb (index + size) (length (g .retired))) refl)
     where
-      go : (x : Bool) → leb (first + size) (length (g .retired)) ≡ x
-          → let k : ℕ = cond (ltb (length (g .retired)) (first + size)) 2 0 in
-          cond (eqb k 0) (tell (take size (drop first (g .retired)))) (refused k) ≡ cond x result (refused 2)
-      go true p = let within = leb-true (first + size) (length (g .retired)) p in rw (le-ltb (length (g .retired)) (first + size) within) (same within)
-      go false p = rw (lt-ltb (length (g .retired)) (first + size) (leb-false (first + size) (length (g .retired)) p))
+      go : (x : Bool) → leb (index + size) (length (g .retired)) ≡ x
+          → let k : ℕ = cond (ltb (length (g .retired)) (index + size)) 2 0 in
+          cond (eqb k 0) (tell (take size (drop index (g .retired)))) (refused k) ≡ cond x result (refused 2)
+      go true p = let within = leb-true (index + size) (length (g .retired)) p in rw (le-ltb (length (g .retired)) (index + size) within) (same within)
+      go false p = rw (lt-ltb (length (g .retired)) (index + size) (leb-false (index + size) (length (g .retired)) p))
 
-  portion-long : (first size : ℕ) → first + size ≤ length (g .retired) → length (take size (drop first (g .retired))) ≡ size
-  portion-long first size within = length-take-le size (drop first (g .retired)) (omega (arith, length-drop first (g .retired)))
+  portion-long : (index size : ℕ) → index + size ≤ length (g .retired) → length (take size (drop index (g .retired))) ≡ size
+  portion-long index size within = length-take-le size (drop index (g .retired)) (omega (arith, length-drop index (g .retired)))
 
-  pub serves : (b : Bool) → o .channel .download .opened ≡ b → Serves o m b (g .retired)
+  serves : (b : Bool) → o .channel .download .opened ≡ b → Serves o m b (g .retired)
   unfolding response refusalOf answer
   serves b e =
       let fits : eqb m (o .m) ≡ true = eq-eqb m (o .m) (sym d) in
       record {
-        portion = λ first size. rw fits (served part (part (take size (drop first (g .retired)))) first size (λ within. refl) b e);
-        long =
-            λ first size.
-            rw fits (served (λ (s : List ℕ). partLength (length s)) (partLength size) first size (λ within. ap partLength (portion-long first size within)) b e);
+        portion = λ index size. rw fits (served part (part (take size (drop index (g .retired)))) index size (λ within. refl) b e);
+        lengths =
+            λ index size.
+            rw fits (served (λ (s : List ℕ). partLength (length s)) (partLength size) index size (λ within. ap partLength (portion-long index size within)) b e);
       }
 
 pub portions-told : PortionsTold
@@ -216,7 +219,7 @@ going-from o (k ∷ ks) words r h none =
     (none .2)
 
 -- an opening is not refused, and is neither a Group End nor a reset
-opening-plain : (o : OneChannel)
+pub opening-plain : (o : OneChannel)
     → (endsGroup (entry o call.openDownload) ≡ false) × (resets (entry o call.openDownload) ≡ false) × (opensDownload (entry o call.openDownload) ≡ true)
 unfolding response refusalOf answer
 opening-plain o = (refl, refl, refl)

@@ -213,7 +213,7 @@ module _ (m : ℕ) where
         registers = record { clock = omega arith; active = refl; id = omega arith; events = refl; switches = refl; delays = refl };
         readbacks = record { stored = omega arith; retired = omega arith };
         adc = record { third = omega arith; fourth = omega arith; fifth = omega arith; sixth = omega arith };
-        download = λ e. clash e;
+        download = refl;
         commands = record { count = omega arith; replies = refl };
       }
 
@@ -225,7 +225,7 @@ module _ (m : ℕ) where
         registers = opened-range .registers;
         readbacks = opened-range .readbacks;
         adc = opened-range .adc;
-        download = λ e. clash e;
+        download = refl;
         commands = opened-range .commands;
       }
 
@@ -246,7 +246,7 @@ module _ (m : ℕ) where
         registers = group-registers (c .registers) (c .sequencer .count) (h .registers);
         readbacks = record { stored = omega arith; retired = h .readbacks .stored };
         adc = h .adc;
-        download = λ e. clash e;
+        download = refl;
         commands = group-commands (c .commands) (h .commands);
       }
 
@@ -294,7 +294,7 @@ module _ (m : ℕ) where
   pub download-range : (c : Channel) → ChannelInRange m c → ChannelInRange m (downloadOpened c)
   unfolding downloadOpened
   download-range c h =
-      record { status = h .status; registers = h .registers; readbacks = h .readbacks; adc = h .adc; download = λ e. refl; commands = h .commands }
+      record { status = h .status; registers = h .registers; readbacks = h .readbacks; adc = h .adc; download = refl; commands = h .commands }
 
   -- E0–FE
   pub commands-range : (c : Channel) (offset value : ℕ) → ChannelInRange m c → ChannelInRange m (withCommands c (cmd.stored (c .commands) offset value))

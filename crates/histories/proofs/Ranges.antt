@@ -24,11 +24,10 @@ use Rattle.channel.specs.Calls.{outside, armedOf, mainTaken}
 use Rattle.channel.specs.Downloads.{downloadOpened}
 use Rattle.channel.specs.OneChannel.{ChannelCall, OneChannel, oneChannel, lengthRefusal, refusalOf, effect, transition, response, transitions, mainRead, withUser, withChannel, withReadbacks, userRefusal}
 use Rattle.channel.specs.OneChannel as call
-use Rattle.channel.proofs.Cases.{passed, either}
+use Rattle.channel.proofs.Cases.{passed, either, then-passed}
 use Rattle.channel.proofs.Ranges.{inside}
 use Rattle.histories.specs.History.{entry, resets, readsAt}
 use Rattle.histories.specs.Ranges.{Quiet, SequencerInRange, ChannelInRange, Apart, InRange, CallKeepsRange, StaysInRange}
-use Rattle.histories.proofs.Accepted.{then-passed}
 use Rattle.histories.proofs.Calls.{steps, read-sequencer, main-sequencer}
 use Rattle.histories.proofs.Leaves.{leaves-read, leaves-main}
 use Rattle.histories.proofs.Apart.{ApartIn, apart-opened, apart-event, apart-user, apart-arm, apart-disarm, apart-tick, apart-reply, apart-register}

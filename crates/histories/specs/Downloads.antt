@@ -29,21 +29,21 @@ openOver n m setpoints readbacks ks = openSince false (history (oneChannel n m s
 
 -- ---- What a portion answers
 
--- none is open: 12; "A portion whose end is past the count is refused 2."; else `result`. `words` are those of the download
-abbrev pub servedFrom : (isOpen : Bool) (words : List ℕ) (first size : ℕ) → (result : Answer) → Answer
-servedFrom isOpen words first size result = cond isOpen (cond (leb (first + size) (length words)) result (refused 2)) (refused 12)
+-- none is open: 12; "A portion whose end is past the count is refused 2."; else `result`. `words` is the retired part that the download fetches
+abbrev pub servedFrom : (isOpen : Bool) (words : List ℕ) (index size : ℕ) → (result : Answer) → Answer
+servedFrom isOpen words index size result = cond isOpen (cond (leb (index + size) (length words)) result (refused 2)) (refused 12)
 
 -- "Portions give a first index and a length and return those words"; and the twin
-abbrev pub portionBy : (isOpen : Bool) (words : List ℕ) (first size : ℕ) → Answer
-portionBy isOpen words first size = servedFrom isOpen words first size (part (take size (drop first words)))
+abbrev pub portionBy : (isOpen : Bool) (words : List ℕ) (index size : ℕ) → Answer
+portionBy isOpen words index size = servedFrom isOpen words index size (part (take size (drop index words)))
 
-abbrev pub lengthBy : (isOpen : Bool) (words : List ℕ) (first size : ℕ) → Answer
-lengthBy isOpen words first size = servedFrom isOpen words first size (partLength size)
+abbrev pub lengthBy : (isOpen : Bool) (words : List ℕ) (index size : ℕ) → Answer
+lengthBy isOpen words index size = servedFrom isOpen words index size (partLength size)
 
--- so any portion is answered, lent what fits
+-- what any portion is answered, and the call beside it, lent two buffers of M words
 pub record Serves (o : OneChannel) (m : ℕ) (isOpen : Bool) (words : List ℕ) : Type 0 where
-  pub portion : (first size : ℕ) → response o (query (call.portion first size) m m) ≡ portionBy isOpen words first size
-  pub long : (first size : ℕ) → response o (query (call.portionLength first size) m m) ≡ lengthBy isOpen words first size
+  pub portion : (index size : ℕ) → response o (query (call.portion index size) m m) ≡ portionBy isOpen words index size
+  pub lengths : (index size : ℕ) → response o (query (call.portionLength index size) m m) ≡ lengthBy isOpen words index size
 
 -- from an opening of a fitting length, after any list of calls
 abbrev pub PortionsTold : Type 0
@@ -58,12 +58,12 @@ abbrev pub NoneEnds : List Entry → Type 0
 NoneEnds [] = Unit {0}
 NoneEnds (e ∷ es) = (endsGroup e ≡ false) × (resets e ≡ false) × NoneEnds es
 
--- a download opened at the state `opening`, and its portions at the state `now`: of the words that retired readbacks would have answered as it was opened
-pub record Downloads (opening now : OneChannel) (m : ℕ) : Type 0 where
+-- a download was opened at the state `start`: at the state `now` its portions are of the words that retired readbacks would have answered at `start`
+pub record ServedSince (start now : OneChannel) (m : ℕ) : Type 0 where
   pub words : List ℕ
-  pub retired-then : response opening (query retired m m) ≡ part words
+  pub retired-then : response start (query retired m m) ≡ part words
   -- "Opening a download of a channel remembers the retired count and answers it."
-  pub answered : response opening openDownload ≡ partLength (length words)
+  pub answered : response start openDownload ≡ partLength (length words)
   pub serves : Serves now m true words
 
 -- from an opening of a fitting length: any calls; then a download is opened; then any calls, "while ticks, sends and replies go on", but no Group End and no
@@ -74,4 +74,4 @@ DownloadStays =
     → (before later : List ChannelCall)
     → let o = transitions (oneChannel n m setpoints readbacks) before in
     NoneEnds (history (transition o openDownload) later)
-    → Downloads o (transitions (transition o openDownload) later) m
+    → ServedSince o (transitions (transition o openDownload) later) m

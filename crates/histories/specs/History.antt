@@ -2,8 +2,8 @@
 -- answered. Laws over histories are stated with these.
 -- Document 02, card 1: which of the frames are command frames, and which replies go to E4–FA, told by calls and answers. Card 2: the Frame ID that a
 -- frame carries, read from the frame, and which register a call reads. Card 6: what a call makes of tags (specs/TagChanges). Card 7: a reply as an
--- ADC word, by its own frame. Card 8: which calls open a download. Of the state before a call only the code of the Group End event (which `TagsTold`, specs/Tags, has told by
--- writes), the current user, and what a stored word says of the last send are looked at.
+-- ADC word, by its own frame. Card 8: which calls open a download. Of the state before a call only the code of the Group End event (which
+-- `TagsTold`, specs/Tags, has told by writes), the current user, and what a stored word says of the last send are looked at.
 use Prim.Native.Nat.{ℕ, _+_}
 use mathlib.Core.Bool.{Bool, true, false, cond, not, _&&_, _||_}
 use mathlib.Core.List.{List, [], _∷_}
@@ -133,8 +133,8 @@ abbrev pub reading : ℕ → Asks
 reading offset =
     record { groupEnd = false; reset = false; idle = false; opens = false; word = []; adc = noAdc; reads = eqb offset; commands = leavesCommands; tags = leavesTags }
 
-abbrev pub opening : Asks
-opening =
+abbrev pub openingDownload : Asks
+openingDownload =
     record { groupEnd = false; reset = false; idle = false; opens = true; word = []; adc = noAdc; reads = readsNothing; commands = leavesCommands; tags = leavesTags }
 
 abbrev pub asks : OneChannel → ChannelCall → Asks
@@ -154,7 +154,7 @@ asks o (call.readRegister offset) = reading offset
 asks o (call.writeSetpoint lent user buffer index word) = asksNothing
 asks o call.arm = changing leavesCommands armedTags
 asks o call.disarm = idleIf true (λ a f. cmd.dropped f) disarmedTags
-asks o call.openDownload = opening
+asks o call.openDownload = openingDownload
 asks o (call.reply lent f) = bringing (replyWord o (read f)) (adcIn (read f)) (repliedTo (read f))
 asks o (call.query which one two) = asksNothing
 asks o (call.tick lent) = changing tickedBy leavesTags

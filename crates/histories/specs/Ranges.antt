@@ -5,7 +5,7 @@
 -- remembers, so that no portion goes past the retired part.
 use Prim.Native.Nat.{ℕ, _-_, _*_, _≤_, _<_}
 use mathlib.Core.Path.{_≡_}
-use mathlib.Core.Bool.{Bool, true, false}
+use mathlib.Core.Bool.{Bool, true, false, cond}
 use mathlib.Core.List.{List}
 use lib.ListN.{length, getD}
 use Rattle.status.specs.Bits.{bitAt}
@@ -90,9 +90,9 @@ pub record AdcWordsInRange (w : AdcWords) : Type 0 where
   pub fifth : AdcInRange (w .fifth)
   pub sixth : AdcInRange (w .sixth)
 
--- an open download remembers the count of the part that is retired: it was opened after that part's Group End, and ends with the next
+-- the count that an open download remembers is that of the retired part, which only a Group End or a reset changes: both end it
 abbrev pub DownloadInRange : Download → Readbacks → Type 0
-DownloadInRange d r = d .opened ≡ true → d .count ≡ r .retired
+DownloadInRange d r = d .count ≡ cond (d .opened) (r .retired) 0
 
 -- "six pairs", of which FE counts those that came
 pub record CommandsInRange (f : CommandFrames) : Type 0 where

@@ -11,13 +11,13 @@ use Rattle.histories.specs.History.{history}
 use Rattle.histories.specs.Downloads.{openOver, NoneEnds}
 use Rattle.histories.specs.Downloads as alone
 use Rattle.histories.specs.Keeping.{keptOver}
-use Rattle.histories.proofs.Downloads.{portions-told as told-alone, download-stays as stays-alone}
+use Rattle.histories.proofs.Downloads.{portions-told as told-alone, download-stays as stays-alone, opening-plain}
 use Rattle.board_state.specs.Parts.{own}
 use Rattle.board.specs.Answers.{one}
 use Rattle.board.specs.Worlds.{World}
 use Rattle.isolation.specs.Calls.{none, answer, worldAfter, opening}
-use Rattle.isolation.specs.Feeding.{fed}
-use Rattle.isolation.specs.Isolation.{oneChannelAt, downloadOpening, Serves, PortionsTold, DownloadStays, DownloadAllowed}
+use Rattle.isolation.specs.Feeding.{fed, view}
+use Rattle.isolation.specs.Isolation.{oneChannelAt, downloadOpening, Serves, PortionsTold, DownloadStays, DownloadAccepted}
 use Rattle.isolation.proofs.Parts.{Number}
 use Rattle.isolation.proofs.Isolation.{open-own}
 use Rattle.isolation.proofs.Observing.{observe-opening}
@@ -29,7 +29,7 @@ serves-alone : (c m : ℕ) (h : Number c) (w : World) (o : OneChannel) (isOpen :
 serves-alone c m h w o isOpen words a q =
     record {
       portion = λ index size. query-alone w o c m h a (to.portion index size) refl ∙ ap one (q .portion index size);
-      long = λ index size. query-alone w o c m h a (to.portionLength index size) refl ∙ ap one (q .long index size);
+      lengths = λ index size. query-alone w o c m h a (to.portionLength index size) refl ∙ ap one (q .lengths index size);
     }
 
 pub portions-told : PortionsTold
@@ -60,5 +60,9 @@ download-stays n m s r opens c low high before later a ends =
           (x .at-last) (q .serves);
     }
 
-pub download-allowed : DownloadAllowed
-download-allowed n m s r c before a = allowed-more (opening n m s r) before (downloadOpening c ∷ []) a (inr refl, tt)
+pub download-accepted : DownloadAccepted
+download-accepted n m s r c low high before a = (
+  allowed-more (opening n m s r) before (downloadOpening c ∷ []) a (inr refl, tt),
+  rw (eq-eqb c c refl),
+  opening-plain (view c (worldAfter (opening n m s r) before)) .2,
+)

@@ -98,8 +98,8 @@ end-word-stays n m s r opens c low high before groupEnd later a k fed-end ends r
     found-alone c m h (step w groupEnd) (worldAfter (opening n m s r) (before ++ (groupEnd ∷ later))) (transition o k)
     (transitions (transition o k) (fed c later)) (x .called) (x .at-last)
     (stays-alone n m (own s (n * 16) c) (own r (m * 2) c) (f .1) (open-own n m s r opens c h .1) (fed c before) k (fed c later)
-    (subst (λ (x : OneChannel). endsGroup (entry x k) ≡ true) (x .at-call .same) ends)
-    (subst (λ (x : OneChannel). StaysRetired second (history x (fed c later))) (x .called .same) retired))
+    (subst (λ (p : OneChannel). endsGroup (entry p k) ≡ true) (x .at-call .same) ends)
+    (subst (λ (p : OneChannel). StaysRetired second (history p (fed c later))) (x .called .same) retired))
 
 -- ---- There are such Group Ends
 

@@ -1,7 +1,7 @@
 -- Document 01, 'What holds it to this': demand 3, "each channel behaves as it would alone". The claim, and what stands beside it.
 -- Proofs: Isolation and FedTheSame in proofs/Isolation.antt, IsolationShown, MissingCounted and NotVacuous in Shown, DefaultsUnused and
 -- OneFrameATick in Defaults, EndWordStays, EndWordStands and GroupEndAccepted in EndWords, MarksRetired in Marks, ReadingsTold in Readings,
--- PortionsTold, DownloadStays and DownloadAllowed in Downloads, the others in Refused and Others.
+-- PortionsTold, DownloadStays and DownloadAccepted in Downloads, the others in Refused and Others.
 use Prim.Native.Nat.{ℕ, _+_, _-_, _*_, _<_, _≤_}
 use mathlib.Core.Path.{_≡_}
 use mathlib.Core.Bool.{Bool, true, false, not}
@@ -15,7 +15,7 @@ use Rattle.channel_core.specs.Behaviour.{playedOf}
 use Rattle.channel.specs.Calls.{mainBit}
 use Rattle.channel.specs.OneChannel.{OneChannel, ChannelCall, oneChannel, response, transitions, responses, bufferOne, bufferTwo}
 use Rattle.channel.specs.OneChannel as to
-use Rattle.histories.specs.History.{entry, history, endsGroup}
+use Rattle.histories.specs.History.{entry, history, endsGroup, opensDownload}
 use Rattle.histories.specs.Ranges.{InRange}
 use Rattle.histories.specs.Missing.{shortfallsOver, missingCount}
 use Rattle.histories.specs.EndWords.{secondActiveOver, groupRetiredOver, StaysRetired}
@@ -217,11 +217,11 @@ ReadingsTold =
     → answer (worldAfter (opening n m s r) xs .board) (query c to.readings) none
     ≡ one (readingsBy (repliesOver n m (own s (n * 16) c) (own r (m * 2) c) (fed c xs)))
 
--- document 02, card 8: what any portion of channel c is answered in the world `w`, and its twin, lent the channel's buffers; a download is open or not, and
--- `words` are those that it is of
+-- document 02, card 8: what any portion of channel c is answered in the world `w`, and the call beside it, lent the channel's buffers; a download is open or
+-- not, and `words` is the retired part that it fetches
 pub record Serves (c : ℕ) (w : World) (isOpen : Bool) (words : List ℕ) : Type 0 where
   pub portion : (index size : ℕ) → answer (w .board) (query c (to.portion index size)) (ownBuffers w c) ≡ one (portionBy isOpen words index size)
-  pub long : (index size : ℕ) → answer (w .board) (query c (to.portionLength index size)) (ownBuffers w c) ≡ one (lengthBy isOpen words index size)
+  pub lengths : (index size : ℕ) → answer (w .board) (query c (to.portionLength index size)) (ownBuffers w c) ≡ one (lengthBy isOpen words index size)
 
 -- from an opening, over any allowed list: by what the answers to the calls fed to c tell, so "Other channels' Group Ends don't matter."
 abbrev pub PortionsTold : Type 0
@@ -233,11 +233,12 @@ PortionsTold =
     → Serves c (worldAfter (opening n m s r) xs) (openOver n m (own s (n * 16) c) (own r (m * 2) c) (fed c xs))
     (keptOver n m (own s (n * 16) c) (own r (m * 2) c) (fed c xs) .retired)
 
--- a download of channel c is opened in the world `then`; in the world `now` its portions are of the words that retired readbacks would have answered then
-pub record Downloads (c : ℕ) (then now : World) : Type 0 where
+-- a download of channel c was opened in the world `start`: in the world `now` its portions are of the words that retired readbacks would have answered in
+-- `start`
+pub record ServedSince (c : ℕ) (start now : World) : Type 0 where
   pub words : List ℕ
-  pub retired-then : answer (then .board) (query c to.retired) (ownBuffers then c) ≡ one (ans.part words)
-  pub answered : answer (then .board) (openDownload c) none ≡ one (ans.partLength (length words))
+  pub retired-then : answer (start .board) (query c to.retired) (ownBuffers start c) ≡ one (ans.part words)
+  pub answered : answer (start .board) (openDownload c) none ≡ one (ans.partLength (length words))
   pub serves : Serves c now true words
 
 -- the opening of a download of channel c, which is lent nothing
@@ -254,12 +255,17 @@ DownloadStays =
     → (before later : List Item) → Allowed (opening n m s r) (before ++ (downloadOpening c ∷ later))
     → let w = worldAfter (opening n m s r) before in
     NoneEnds (history (view c (step w (downloadOpening c))) (fed c later))
-    → Downloads c w (worldAfter (opening n m s r) (before ++ (downloadOpening c ∷ later)))
+    → ServedSince c w (worldAfter (opening n m s r) (before ++ (downloadOpening c ∷ later)))
 
--- after any allowed list one may be opened
-abbrev pub DownloadAllowed : Type 0
-DownloadAllowed =
-    (n m : ℕ) (s r : List ℕ) (c : ℕ) (before : List Item) → Allowed (opening n m s r) before → Allowed (opening n m s r) (before ++ (downloadOpening c ∷ []))
+-- after any allowed list that opening is allowed, and takes place
+abbrev pub DownloadAccepted : Type 0
+DownloadAccepted =
+    (n m : ℕ) (s r : List ℕ) (c : ℕ) → 1 ≤ c → c ≤ 4
+    → (before : List Item) → Allowed (opening n m s r) before
+    → let w = worldAfter (opening n m s r) before in
+    Allowed (opening n m s r) (before ++ (downloadOpening c ∷ []))
+    × (feeds c (downloadOpening c) ≡ to.openDownload ∷ [])
+    × (opensDownload (entry (view c w) to.openDownload) ≡ true)
 
 -- Commands with D2 for channel c, lent the memory of this world; and what c is fed of it
 abbrev pub groupEndOf : ℕ → World → Item

@@ -14,14 +14,14 @@ pub fn portion<'a>(
     block: &mut Block,
     b: Board,
     number: u32,
-    first: u32,
+    index: u32,
     size: u32,
     one: &'a [u32],
     two: &'a [u32],
 ) {
     printed_calls::part(
         block,
-        board_downloads::portion(b, number, first, size, one, two),
+        board_downloads::portion(b, number, index, size, one, two),
     );
 }
 
@@ -29,13 +29,13 @@ pub fn portion_length<'a>(
     block: &mut Block,
     b: Board,
     number: u32,
-    first: u32,
+    index: u32,
     size: u32,
     one: &'a [u32],
     two: &'a [u32],
 ) {
     printed_calls::length(
         block,
-        board_downloads::portion_length(b, number, first, size, one, two),
+        board_downloads::portion_length(b, number, index, size, one, two),
     );
 }

@@ -85,7 +85,7 @@ fn pool_call(
     lent_call(block, b, pool::front_mut(readbacks, length), record)
 }
 
-// A call that is lent two readback buffers: retired readbacks and portions, and their lengths: kinds 7, 8, 17, 18.
+// Retired readbacks, portions and their lengths, which are lent two readback buffers: kinds 7, 8, 17, 18.
 fn buffer_call(block: &mut Block, b: Board, readbacks: &[u32], record: Record) {
     let one = pool::part(
         readbacks,

@@ -1,56 +1,46 @@
 -- `board_channels::retired_length` meets its contract: the lengths, then the channel, and else what the channel answers. Assumes nothing.
 use Prim.Native.Nat.{ℕ}
-use Rattle.board_state.specs.State.{channelAt}
-use Rattle.board_state.specs.declared.Board.{Board}
-use Rattle.board_channels.proofs.retired_length.Statement.{statement}
-use Rattle.board_channels.specs.Calls.{retiredLength, retiredWords}
-use Rattle.channel.proofs.Ranges.{inside}
-use Rattle.channel.specs.Calls.{outside}
-use Rattle.channel_core.specs.declared.Channel.{Channel}
-use borrow.Author.Needs.{needs}
-use borrow.Author.Tests.{eq-eqb, ne-eqb}
-use denote.Ref.{now}
-use lib.Dec.{eqb}
-use lib.ListN.{length}
-use mathlib.Core.Bool.{true, false}
-use mathlib.Core.List.{List}
 use mathlib.Core.Path.{_≡_, sym, ap, _∙_}
+use mathlib.Core.Bool.{false}
+use mathlib.Core.List.{List}
 use native.Mathlib.Omega.{arith}
+use lib.ListN.{length}
+use denote.Ref.{now}
+use Rattle.refusal.specs.Refusals.{verdictNumber}
+use Rattle.refusal.proofs.Laws.{refuses}
+use Rattle.channel_core.specs.declared.Channel.{Channel}
 use Rattle.channel.specs.Calls as one
+use Rattle.channel.proofs.Ranges.{inside}
+use Rattle.board_state.specs.declared.Board.{Board}
+use Rattle.board_state.specs.State.{channelAt}
+use Rattle.board_state.specs.Checks.{noChannel}
+use Rattle.board_channels.specs.Calls.{retiredRefusal, retiredWords, retiredLength}
+use Rattle.board_channels.proofs.RetiredPart.{same-refusal, passed-channel}
+use borrow.Author.Needs.{needs}
+use Rattle.board_channels.proofs.retired_length.Statement.{statement}
 use Rattle.board_channels.proofs.retired_length.Tie as tie
 
--- where the lengths and the channel are right, the board's answer is the channel's
-plain : (b : Board) (number : ℕ) (s t : List ℕ) → outside 1 4 number ≡ false → eqb (length s) (b .m) ≡ true → eqb (length t) (b .m) ≡ true
-    → one.retiredLength (channelAt b number) (b .m) s t ≡ retiredLength b number s t
+-- of a channel in range the board's answer is the channel's
+plain : (b : Board) (number : ℕ) (s t : List ℕ) → noChannel number ≡ false → one.retiredLength (channelAt b number) (b .m) s t ≡ retiredLength b number s t
 unfolding retiredLength retiredWords one.retiredLength
-plain b number s t o e f = simp (o, e, f)
+plain b number s t named = sym (rw (same-refusal b number (length s) (length t) named, named))
 
-cast-if1 : tie.Need-cast-if1
-cast-if1 c = search needs
+-- past the check nothing is refused
+allowed : (c : tie.After-enum-told)
+    → let a = c .before .before .before .before .before .args in
+    retiredRefusal (a .b) (a .number) (length (now (a .one))) (length (now (a .two))) ≡ 0
+allowed c = sym (c .before .before .check-buffers .ensures) ∙ ap verdictNumber (c .enum-told .given .1)
 
-returns : tie.Need-returns
-unfolding retiredLength retiredWords one.retiredLength
-returns c = simp (ne-eqb _ _ (c .if1 .taken))
+check-buffers-requires : tie.Need-check-buffers-requires
+check-buffers-requires c κs = search needs
 
-cast-if2 : tie.Need-cast-if2
-cast-if2 c = search needs
-
-returns-2 : tie.Need-returns-2
-unfolding retiredLength retiredWords one.retiredLength
-returns-2 c = simp (eq-eqb _ _ (c .before .if1 .left), ne-eqb _ _ (c .if2 .taken))
-
-is-outside-requires : tie.Need-is-outside-requires
-is-outside-requires c κs = search needs
-
-returns-3 : tie.Need-returns-3
-unfolding retiredLength retiredWords one.retiredLength
-returns-3 c =
-    let s = c .before .before in
-    rw (← c .before .is-outside .ensures) (simp (eq-eqb _ _ (s .before .if1 .left), eq-eqb _ _ (s .if2 .left), c .if3 .taken))
+enum-told : tie.Need-enum-told
+enum-told c = search needs
 
 cast-channel : tie.Need-cast-channel
 cast-channel c =
-    omega (arith, inside 1 4 (c .before .before .before .before .before .before .args .number) (sym (c .before .is-outside .ensures) ∙ c .if3 .left))
+    let a = c .before .before .before .before .before .args in
+    omega (arith, inside 1 4 (a .number) (passed-channel (a .b) (a .number) _ _ (allowed c)))
 
 channel-requires : tie.Need-channel-requires
 channel-requires c κs = search needs
@@ -58,29 +48,33 @@ channel-requires c κs = search needs
 retired-length-requires : tie.Need-retired-length-requires
 retired-length-requires c κs = search needs
 
-returns-4 : tie.Need-returns-4
-unfolding retiredLength retiredWords one.retiredLength
-returns-4 c =
-    let k = c .before .before in
-    let s = k .before .before in
-    let a = s .before .before .before .before .args in
-    let one-long = eq-eqb _ _ (s .before .if1 .left) in
-    let two-long = eq-eqb _ _ (s .if2 .left) in
+enum-known-verdict : tie.Need-enum-known-verdict
+enum-known-verdict c = search needs
+
+returns : tie.Need-returns
+returns c =
+    let s = c .before .before in
+    let a = s .before .before .before .before .before .args in
+    let named = passed-channel (a .b) (a .number) _ _ (allowed s) in
     c .retired-length .ensures
     ∙ ap (λ (x : Channel). one.retiredLength x (a .b .m) (now (a .one)) (now (a .two))) (c .before .channel .ensures)
-    ∙ plain (a .b) (a .number) (now (a .one)) (now (a .two)) (sym (k .before .is-outside .ensures) ∙ k .if3 .left) one-long two-long
+    ∙ plain (a .b) (a .number) (now (a .one)) (now (a .two)) named
+
+returns-2 : tie.Need-returns-2
+unfolding retiredLength
+returns-2 c =
+    let s = c .before in
+    rw (← s .before .before .check-buffers .ensures) (simp (s .verdict .given .1, refuses))
 
 pub retired-length-spec : {M : Type 1} → statement M
 retired-length-spec =
     tie.close
     (tie.spec
-    cast-if1
-    returns
-    cast-if2
-    returns-2
-    is-outside-requires
-    returns-3
+    check-buffers-requires
+    enum-told
     cast-channel
     channel-requires
     retired-length-requires
-    returns-4)
+    enum-known-verdict
+    returns
+    returns-2)

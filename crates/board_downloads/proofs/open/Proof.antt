@@ -2,6 +2,7 @@
 use mathlib.Core.Path.{sym, _∙_, ap}
 use native.Mathlib.Omega.{arith}
 use Rattle.channel_core.specs.declared.Channel.{Channel}
+use Rattle.channel_core.specs.Answers.{partLength}
 use Rattle.channel.specs.Downloads as one
 use Rattle.channel.proofs.Ranges.{inside}
 use Rattle.board_downloads.specs.Calls.{openedBoard, openingAnswer}
@@ -39,7 +40,7 @@ returns-2 c =
     let s = k .before in
     rw (← s .before .is-outside .ensures) (
       simp (s .if1 .left, c .with-channel .ensures, p .«open» .ensures .0, k .channel .ensures),
-      rw (s .if1 .left) (p .«open» .ensures .1 ∙ ap (λ (x : Channel). one.openingAnswer x) (k .channel .ensures)),
+      rw (s .if1 .left) (ap partLength (p .«open» .ensures .1) ∙ ap (λ (x : Channel). one.openingAnswer x) (k .channel .ensures)),
     )
 
 pub open-spec : {M : Type 1} → statement M

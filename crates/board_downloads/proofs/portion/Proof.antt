@@ -20,7 +20,7 @@ unfolding portionWords
 returns c =
     let s = c .before in
     let a = s .before .before .before .before .args in
-    rw (portion-part (a .b) (a .number) (a .first) (a .size) (now (a .one)) (now (a .two)), ← s .before .is-outside .ensures) (simp (s .if1 .taken))
+    rw (portion-part (a .b) (a .number) (a .index) (a .size) (now (a .one)) (now (a .two)), ← s .before .is-outside .ensures) (simp (s .if1 .taken))
 
 cast-channel : tie.Need-cast-channel
 cast-channel c =
@@ -37,7 +37,7 @@ unfolding portionWords
 returns-2 c =
     let s = c .before .before in
     let a = s .before .before .before .before .args in
-    rw (portion-part (a .b) (a .number) (a .first) (a .size) (now (a .one)) (now (a .two)), ← s .before .is-outside .ensures)
+    rw (portion-part (a .b) (a .number) (a .index) (a .size) (now (a .one)) (now (a .two)), ← s .before .is-outside .ensures)
     (simp (s .if1 .left, c .portion .ensures, c .before .channel .ensures))
 
 pub portion-spec : {M : Type 1} → statement M

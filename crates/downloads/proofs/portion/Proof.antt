@@ -27,8 +27,8 @@ part-result-end c = search needs
 returns : tie.Need-returns
 returns c =
     let a = c .before .before .args in
-    let all : a .first + a .size - a .first ≡ a .size = omega arith in
-    ap (λ (k : ℕ). take k (drop (a .first) (now (a .part)))) all
+    let all : a .index + a .size - a .index ≡ a .size = omega arith in
+    ap (λ (k : ℕ). take k (drop (a .index) (now (a .part)))) all
 
 mul-result-2 : tie.Need-mul-result-2
 mul-result-2 c = search needs
@@ -45,9 +45,9 @@ part-result-end-2 c = search needs
 returns-2 : tie.Need-returns-2
 returns-2 c =
     let a = c .before .before .before .args in
-    let rest = drop (a .first) (now (a .part)) in
-    let long = length-drop (a .first) (now (a .part)) in
-    take-all (length (now (a .part)) - a .first) rest (omega (arith, long)) ∙ sym (take-all (a .size) rest (omega (arith, long, c .before .before .if1 .left)))
+    let rest = drop (a .index) (now (a .part)) in
+    let long = length-drop (a .index) (now (a .part)) in
+    take-all (length (now (a .part)) - a .index) rest (omega (arith, long)) ∙ sym (take-all (a .size) rest (omega (arith, long, c .before .before .if1 .left)))
 
 slice-aggregate-result : tie.Need-slice-aggregate-result
 slice-aggregate-result c = search needs
