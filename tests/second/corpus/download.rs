@@ -123,10 +123,10 @@ fn of_no_channel(world: &mut World, s: &Scene, count: u32) {
 /// Any portion, of this channel, another or none, with any lent code.
 pub fn portion(world: &mut World, s: &Scene, count: u32) {
     let d = s.d;
-    let (first, length) = range(d, count, world.board().m);
-    if d.chance(5) {
+    if d.chance(8) {
         return of_no_channel(world, s, count);
     }
+    let (first, length) = range(d, count, world.board().m);
     let c = if d.chance(95) { s.c } else { 1 + (s.c + d.below(3)) % 4 };
     let lent = if d.chance(55) { 0 } else { d.below(9) as u8 };
     both(world, s, c, first, length, lent);

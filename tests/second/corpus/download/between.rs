@@ -91,14 +91,14 @@ fn other<'a>(world: &World, s: &'a Scene) -> Scene<'a> {
 fn beside(world: &mut World, s: &Scene) {
     let d = s.d;
     let other = other(world, s);
-    match d.below(6) {
+    match d.below(7) {
         0 | 1 => {
             let op = group_end_of(world, &other);
             world.put(op, d);
         }
         2 => reset(world, s, other.c),
         3 => world.put(Op::Disarm(other.c), d),
-        4 => {
+        4 | 5 => {
             open(world, &other);
             let count = super::retired_count(world, &other);
             within(world, &other, count);
@@ -138,25 +138,25 @@ fn idled(world: &mut World, s: &Scene) {
 /// What else leaves the download as it is.
 fn left(world: &mut World, s: &Scene) {
     let d = s.d;
-    let op = match d.below(18) {
+    let op = match d.below(19) {
         0 => Op::User(world.board().user),
         1 => Op::User(d.of(&[0, 9])),
         2 => Op::Arm(s.c),
         3 => Op::Write(s.at() + 8, 8),
         4 => Op::Write(s.at() + 6, d.of(&[0, 2, 0xFFFE])),
-        5 => Op::Write(s.at() + 0xFC, d.of(&[1, 2])),
-        6 => Op::Read(s.at() + d.of(&[2, 4])),
-        7 => Op::Read(s.at() + 0x0C),
-        8 => Op::Write(s.at() + d.of(&[0, 0x14, 0x24, 0x42, 0xE0]), d.below(65_536) as u16),
-        9 => inactive_word(world, s),
+        5 | 6 => Op::Write(s.at() + 0xFC, d.of(&[1, 1, 2])),
+        7 => Op::Read(s.at() + d.of(&[2, 4])),
+        8 => Op::Read(s.at() + 0x0C),
+        9 => Op::Write(s.at() + d.of(&[0, 0x14, 0x24, 0x42, 0xE0]), d.below(65_536) as u16),
+        10 => inactive_word(world, s),
         // most mean nothing to the channel
-        10 => Op::Event(d.below(256) as u8),
-        11 => Op::Volts { c: s.c, lent: 0 },
-        12 => Op::Download { c: d.of(NO_CHANNEL), lent: 0 },
-        13 | 14 => Op::Ticks(d.of(&[20, 35, 60])),
+        11 => Op::Event(d.below(256) as u8),
+        12 => Op::Volts { c: s.c, lent: 0 },
+        13 => Op::Download { c: d.of(NO_CHANNEL), lent: 0 },
+        14 | 15 => Op::Ticks(d.of(&[20, 35, 60])),
         // a Start, or one more
-        15 => Op::Write(s.at() + 8, 1),
-        16 => return open(world, s),
+        16 => Op::Write(s.at() + 8, 1),
+        17 => return open(world, s),
         _ => return retired(world, s),
     };
     world.put(op, d);
