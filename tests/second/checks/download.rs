@@ -22,12 +22,8 @@ impl Small {
         data.iter().for_each(|data| _ = self.reply(*data));
         self.group_end();
     }
-    /// What both calls of a portion say, which is the same.
     fn portion_of(&mut self, c: u32, first: u32, length: u32, lent: [&[u32]; 2]) -> Told {
-        let by = |is_length: bool| Portion { c, first, length, is_length };
-        let number = self.b.portion(by(true), lent).map(|words| words.len());
-        let words = self.b.portion(by(false), lent);
-        assert_eq!(number, words.map(|words| words.len()));
+        let words = self.b.portion(Portion { c, first, length, is_length: false }, lent);
         words.map(|words| words.to_vec())
     }
     /// A portion of channel 1, lent its own buffers.
