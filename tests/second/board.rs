@@ -245,7 +245,6 @@ impl Board {
         self.drop_tag(c, Dropped::Disarm);
         self.watch_volts_idled(c, Idled::Disarm);
         self.watch_download_kept(c, Did::download_kept_over_disarm);
-        self.watch_download_beside(c, Did::download_kept_over_disarm_of_other_channel);
         self.watch_idling(c, Did::missing_idled_by_disarm, Did::missing_kept_over_disarm);
         self.ch[c].function = None;
         self.ch[c].armed = false;

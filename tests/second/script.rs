@@ -134,7 +134,8 @@ impl Bench {
     /// It is lent nothing, whatever the lent code.
     fn open_download(&mut self, c: u32, code: u8) -> Answer {
         let told = self.board.open_download(c);
-        if told.is_ok_and(|count| count > 0) && (1..=7).contains(&code) {
+        // with these codes a retired call is refused
+        if told.is_ok_and(|count| count > 0) && [1, 2, 4, 6, 7].contains(&code) {
             self.board.tally.add(Did::download_opened_whatever_lent_code);
         }
         answer(told, Answer::Length)

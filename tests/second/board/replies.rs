@@ -122,9 +122,7 @@ impl Board {
         let length = self.retired_count(c);
         let part = &(if is_second { second } else { first })[..length];
         self.tally_part(c, part);
-        if length > 0 {
-            self.tally_retired_beside_download(c);
-        }
+        self.tally_retired_beside_download(c);
         self.watch_left(c, Did::volts_kept_over_retired, Did::download_kept_over_retired);
         Ok((is_second, length))
     }

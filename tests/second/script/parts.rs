@@ -50,6 +50,7 @@ impl Bench {
         }
         // "gives the empty part when refused"
         let Ok(words) = told else { return Answer::Part(Vec::new()) };
+        // the channel's own buffers have others there
         if self.board.find_portion(asked, own) != Ok(words) {
             let swapped = code == 5;
             self.board.tally.add(if swapped { Did::download_words_swapped } else { Did::download_words_of_next_channel });

@@ -20,14 +20,14 @@ impl Halves {
 
     /// One of the calls shows this row: whether both have now.
     pub fn show(&mut self, did: Did, is_length: bool) -> bool {
-        self.add(did);
-        let Some(at) = self.0.iter().position(|row| row.0 == did) else { return false };
-        self.0[at].1[is_length as usize] = true;
-        let is_shown = self.0[at].1 == [true; 2];
-        if is_shown {
-            self.0.remove(at);
+        let at = self.0.iter().position(|row| row.0 == did);
+        let mut shown = at.map_or([false; 2], |at| self.0.swap_remove(at).1);
+        shown[is_length as usize] = true;
+        let is_by_both = shown == [true; 2];
+        if !is_by_both {
+            self.0.push((did, shown));
         }
-        is_shown
+        is_by_both
     }
 
     /// One of the calls shows all that are to be shown: those that both have shown now.

@@ -47,10 +47,8 @@ impl Board {
         let Some(Downloads { of, .. }) = &mut self.downloads else { return };
         if let Some(open) = &mut of[c].open {
             open.ran.has_sent = true;
-            open.ran_between.has_sent = true;
         }
         self.watch_download_kept(c, Did::download_kept_over_send);
-        self.watch_download_beside(c, Did::download_kept_over_send_of_other_channel);
     }
 
     /// A reply that is kept or lost.
@@ -58,10 +56,8 @@ impl Board {
         let Some(Downloads { of, .. }) = &mut self.downloads else { return };
         if let Some(open) = of[c].open.as_mut().filter(|_| is_stored) {
             open.ran.has_kept |= open.ran.has_sent;
-            open.ran_between.has_kept |= open.ran_between.has_sent;
         }
         self.watch_download_kept(c, [Did::download_kept_over_reply_lost, Did::download_kept_over_reply][is_stored as usize]);
-        self.watch_download_beside(c, Did::download_kept_over_reply_of_other_channel);
     }
 
     /// After a record of so many ticks.
@@ -79,13 +75,12 @@ impl Board {
             (Did::download_ended_by_group_end_event, Did::download_kept_over_group_end_event_of_other_channel)
         };
         self.watch_download_beside(c, of_other);
-        let (ch, is_running) = (&self.ch[c], self.ch[c].function.is_some());
+        let ch = &self.ch[c];
         let rows: Vec<Did> = only(&[
             (true, ends),
             (asked.start && ch.armed, Did::download_ended_by_group_end_with_start),
             (!ch.armed, Did::download_ended_by_group_end_while_disarmed),
-            (ch.armed && !is_running, Did::download_ended_by_group_end_while_idle),
-            (is_running, Did::download_ended_by_group_end_while_running),
+            (ch.armed && ch.function.is_none(), Did::download_ended_by_group_end_while_idle),
             (ch.stored[ch.active_readback()] == 0, Did::download_ended_by_group_end_of_empty_group),
         ])
         .collect();
@@ -113,24 +108,22 @@ impl Board {
         let Some(open) = watched.open.take() else { return false };
         watched.before = Some(Before { count: open.count, by });
         watched.absent.clear();
-        let of_words = only(&[
-            (open.last.is_none() && open.count > 0, Did::download_ended_before_portion),
-            (open.has_given_some(), Did::download_ended_after_some_words),
-        ])
-        .collect();
-        [rows, of_words].concat().into_iter().for_each(|did| watched.absent.add(did));
+        rows.into_iter().for_each(|did| watched.absent.add(did));
+        if open.has_given_some() {
+            watched.absent.add(Did::download_ended_after_some_words);
+        }
         true
     }
 
     /// Before a reset.
     pub(in crate::board) fn watch_download_reset(&mut self, c: usize) {
         self.watch_download_beside(c, Did::download_kept_over_reset_of_other_channel);
-        let state = if self.ch[c].function.is_some() {
-            Did::download_ended_by_reset_while_running
-        } else {
-            Did::download_ended_by_reset_while_idle
-        };
-        let rows = vec![Did::download_ended_by_reset, state];
+        let is_idle = self.ch[c].function.is_none();
+        let rows = only(&[
+            (true, Did::download_ended_by_reset),
+            (is_idle, Did::download_ended_by_reset_while_idle),
+        ])
+        .collect();
         let was_open = self.watch_download_ended(c, rows, EndedBy::Reset);
         if let (false, Some(Downloads { of, .. })) = (was_open, &mut self.downloads) {
             of[c].absent.clear();
@@ -172,8 +165,7 @@ impl Board {
         let is_past = asked.end() > self.counted(c).max(self.retired_count(c)) as u64;
         if asked.is_length {
             self.tally_rows(&[
-                (asked.length == 0, Did::download_none_of_length_0),
-                (asked.length == 0 && asked.first == 0 && self.counted(c) == 0, Did::download_none_of_count_0),
+                (asked.length == 0 && asked.first == 0, Did::download_none_of_length_0),
                 (is_past, Did::download_none_past_count),
                 (self.n == 0, Did::download_none_on_closed_board),
             ]);
@@ -184,7 +176,7 @@ impl Board {
         }
         let shown = self.downloads.as_mut().map(|downloads| downloads.of[c].absent.show_all(asked.is_length));
         shown.into_iter().flatten().for_each(|did| self.tally.add(did));
-        let is_beside = (0..4).any(|other| self.is_open(other) && self.has_words(other, asked));
+        let is_beside = (0..4).any(|other| self.would_answer(other, asked));
         self.show(asked, &[
             (is_first && has_words, Did::download_none_yet),
             (has_words && is_beside, Did::download_none_beside_open),

@@ -15,8 +15,8 @@ impl Open {
     /// A portion by its words: which are given with it.
     fn give(&mut self, asked: Portion) {
         let (first, end) = (asked.first as usize, asked.end() as usize);
-        self.is_interleaved |= self.last.is_some() && self.ran_between.is_whole();
-        self.ran_between = Ran::default();
+        self.is_interleaved |= self.last.is_some() && self.ran.is_whole();
+        self.ran = Ran::default();
         if let Some(given) = self.given.get_mut(first..end) {
             given.fill(true);
         }
@@ -58,17 +58,12 @@ impl Board {
             }
             return;
         }
-        self.show(asked, &self.rows_of_range(c, asked, &open));
-        let active = self.ch[c].active_readback();
-        let is_told = lent[active][asked.first as usize..asked.end() as usize] != *words;
-        self.show(asked, &[
-            (is_told && active == 1, Did::download_portion_of_buffer_1),
-            (is_told && active == 0, Did::download_portion_of_buffer_2),
-        ]);
+        self.show(asked, &self.rows_of_range(asked, &open));
+        self.show(asked, &self.rows_among_channels(c, asked));
         if asked.is_length {
             self.watch_download_kept(c, Did::download_kept_over_length);
         } else {
-            self.tally_words(c, asked, words, is_told);
+            self.tally_words(c, asked, lent, words);
         }
         self.watch_download_beside(c, Did::download_kept_over_portion_of_other_channel);
     }
@@ -77,8 +72,7 @@ impl Board {
     fn rows_of_no_words(&self, asked: Portion, count: usize) -> Vec<(bool, Did)> {
         let first = asked.first as usize;
         vec![
-            (first == 0 && count > 0, Did::download_length_0_at_0),
-            (first > 0 && first < count, Did::download_length_0_in_middle),
+            (first < count, Did::download_length_0_below_count),
             (first == count && count > 0, Did::download_length_0_at_count),
             (count == 0 && self.m > 1, Did::download_length_0_of_count_0),
             (self.m == 1, Did::download_length_0_of_depth_1),
@@ -87,51 +81,52 @@ impl Board {
     }
 
     /// Where in the retired part it is, and where beside the portion before it.
-    fn rows_of_range(&self, c: usize, asked: Portion, open: &Open) -> Vec<(bool, Did)> {
+    fn rows_of_range(&self, asked: Portion, open: &Open) -> Vec<(bool, Did)> {
         let (first, end, count) = (asked.first, asked.end(), open.count as u64);
-        let is_other = open.last.is_some_and(|last| last != (first, asked.length));
+        let last_end = open.last.map(|(first, length)| first as u64 + length as u64);
         vec![
             (first == 0 && end == count, Did::download_portion_of_all),
             (first == 0 && end < count, Did::download_portion_of_first_words),
             (first > 0 && end < count, Did::download_portion_of_middle_words),
             (first > 0 && end == count, Did::download_portion_of_last_words),
-            (asked.length == 1 && count > 1, Did::download_portion_of_one_word),
             (end == self.capacity() as u64, Did::download_portion_to_end_of_full_part),
-            (true, OF_CHANNEL[c]),
             (open.last == Some((first, asked.length)), Did::download_portion_again),
             (open.last.is_some_and(|last| first < last.0), Did::download_portion_before_the_last),
-            (open.last.is_some_and(|last| first as u64 == last.0 as u64 + last.1 as u64), Did::download_portion_next_to_the_last),
-            (open.last.is_some_and(|last| first as u64 > last.0 as u64 + last.1 as u64), Did::download_portion_after_gap),
-            (is_other && open.last.is_some_and(|last| overlaps(last, asked)), Did::download_portion_over_the_last),
+            (last_end.is_some_and(|last_end| first as u64 > last_end), Did::download_portion_after_gap),
         ]
     }
 
-    /// A portion by its words, which in the active buffer are others or not.
-    fn tally_words(&mut self, c: usize, asked: Portion, words: &[u32], is_told: bool) {
+    /// What is told of the channel among the others: by another's download the portion would be refused.
+    fn rows_among_channels(&self, c: usize, asked: Portion) -> Vec<(bool, Did)> {
+        let is_alone = (0..4).all(|other| other == c || !self.would_answer(other, asked));
+        let opened = self.downloads.as_ref().and_then(|downloads| downloads.opened);
+        let is_past_later = opened.is_some_and(|(other, count)| other != c && asked.end() > count as u64);
+        vec![(is_alone, OF_CHANNEL[c]), (is_past_later, Did::download_portion_past_count_of_later_opening)]
+    }
+
+    /// A portion by its words.
+    fn tally_words(&mut self, c: usize, asked: Portion, lent: [&[u32]; 2], words: &[u32]) {
+        let active = self.ch[c].active_readback();
+        // those at the same places of the active buffer are others
+        let is_told = lent[active][asked.first as usize..][..words.len()] != *words;
         let Some(Downloads { of, .. }) = &mut self.downloads else { return };
         let Some(open) = &mut of[c].open else { return };
         open.give(asked);
-        let is_whole = !open.given.contains(&false);
-        let is_in_portions = is_whole && words.len() < open.count;
+        let is_whole_in_portions = words.len() < open.count && !open.given.contains(&false);
         let rows = [
-            (open.ran.is_whole() && is_told, Did::download_words_while_next_function_runs),
-            (is_in_portions, Did::download_words_of_all_in_portions),
-            (is_in_portions && open.is_interleaved && is_told, Did::download_words_of_all_while_next_function_runs),
+            (is_told && active == 1, Did::download_words_of_buffer_1),
+            (is_told && active == 0, Did::download_words_of_buffer_2),
+            (is_told && is_whole_in_portions && open.is_interleaved, Did::download_words_of_all_while_next_function_runs),
             (words.contains(&END_WORD), Did::download_words_with_end_word),
         ];
         self.tally_rows(&rows);
         self.watch_download_kept(c, Did::download_kept_over_portion);
     }
 
-    /// Before a retired part that is not empty is answered.
+    /// Before a retired part is answered.
     pub(in crate::board) fn tally_retired_beside_download(&mut self, c: usize) {
         let watched = self.downloads.as_ref().map(|downloads| &downloads.of[c]);
         let has_given = watched.and_then(|watched| watched.open.as_ref()).is_some_and(|open| open.last.is_some());
         self.tally_if(has_given, Did::download_left_retired_part);
     }
-}
-
-/// Some words are of both.
-fn overlaps((first, length): (u32, u32), asked: Portion) -> bool {
-    (asked.first as u64) < first as u64 + length as u64 && (first as u64) < asked.end()
 }

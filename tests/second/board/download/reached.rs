@@ -1,6 +1,6 @@
-//! What the corpus reaches of downloads: counted at an opening or a portion, where its answer would be another if what is
-//! counted were otherwise. Of a portion, two calls tell. The one beside it shows its number or its length; the other shows
-//! words, and nothing at all of a portion that has none.
+//! What the corpus reaches of downloads: counted at an opening or a portion, whose answer would be another if what is
+//! counted were otherwise. A portion has two calls. The one beside it tells a refusal by its number, or a length; the other
+//! tells words, and so nothing of a portion that has none, refused or not.
 
 use super::halves::Halves;
 use super::Portion;
@@ -11,6 +11,8 @@ use crate::tally::Did;
 #[derive(Clone, Default)]
 pub struct Downloads {
     pub(super) of: [Watched; 4],
+    /// The last opening: of which channel, and its count.
+    pub(super) opened: Option<(usize, usize)>,
     /// What one of the two calls has shown.
     pub(super) halves: Halves,
 }
@@ -33,10 +35,8 @@ pub struct Open {
     pub(super) given: Vec<bool>,
     /// The portion before, by its first index and length.
     pub(super) last: Option<(u32, u32)>,
-    /// Since it was opened.
-    pub(super) ran: Ran,
     /// Since the portion before.
-    pub(super) ran_between: Ran,
+    pub(super) ran: Ran,
     /// The next function ran between two of its portions.
     pub(super) is_interleaved: bool,
     /// What it stood through.
@@ -109,6 +109,7 @@ impl Board {
         self.tally_rows(&rows);
         self.watch_download_beside(c, Did::download_kept_over_opening_of_other_channel);
         let Some(downloads) = &mut self.downloads else { return };
+        downloads.opened = Some((c, count));
         let watched = &mut downloads.of[c];
         let is_again = watched.open.is_some();
         watched.open = Some(Open { count, given: vec![false; count], ..Open::default() });
@@ -118,11 +119,11 @@ impl Board {
         }
     }
 
-    /// What is told of the retired count, where it is not that of the active buffer.
+    /// What is told of the retired count, where it is not that of the active buffer, or of another channel.
     fn rows_of_count(&self, c: usize, count: usize) -> Vec<(bool, Did)> {
         let active = self.ch[c].active_readback();
         let is_told = self.ch[c].stored[active] != count;
-        let is_other = |other: usize| other != c && self.retired_count(other) != count;
+        let is_alone = (0..4).all(|other| other == c || self.retired_count(other) != count);
         vec![
             (count == 0 && is_told, Did::download_opened_of_0),
             (count > 0 && count < self.capacity() && is_told, Did::download_opened_of_some),
@@ -130,21 +131,20 @@ impl Board {
             (self.m == 1 && self.is_after_lost(c), Did::download_opened_of_depth_1),
             (count > 0 && active == 1 && is_told, Did::download_opened_of_buffer_1),
             (count > 0 && active == 0 && is_told, Did::download_opened_of_buffer_2),
-            (count > 0, OF_CHANNEL[c]),
-            (count > 0 && (0..4).any(is_other), Did::download_opened_beside_other_count),
+            (count > 0 && is_alone, OF_CHANNEL[c]),
             (self.n == 0, Did::download_opened_on_closed_board),
         ]
     }
 
     /// In which state the channel is.
     fn rows_of_state(&self, c: usize, count: usize) -> Vec<(bool, Did)> {
-        let (ch, is) = (&self.ch[c], count > 0);
+        let (ch, is_some) = (&self.ch[c], count > 0);
         let has_sent = ch.function.as_ref().map(|f| f.sent.is_some());
         vec![
-            (is && !ch.armed, Did::download_opened_while_disarmed),
-            (is && ch.armed && has_sent.is_none(), Did::download_opened_while_idle),
-            (is && has_sent == Some(false), Did::download_opened_in_start_delay),
-            (is && has_sent == Some(true), Did::download_opened_while_running),
+            (is_some && !ch.armed, Did::download_opened_while_disarmed),
+            (is_some && ch.armed && has_sent.is_none(), Did::download_opened_while_idle),
+            (is_some && has_sent == Some(false), Did::download_opened_in_start_delay),
+            (is_some && has_sent == Some(true), Did::download_opened_while_running),
         ]
     }
 
@@ -160,8 +160,7 @@ impl Board {
         vec![
             (open.is_some(), Did::download_opened_again),
             (open.is_some_and(|open| open.last.is_some()), Did::download_opened_again_after_portion),
-            (by_group_end.is_some_and(|counted| count > counted), Did::download_opened_anew_of_more),
-            (by_group_end.is_some_and(|counted| count < counted), Did::download_opened_anew_of_fewer),
+            (by_group_end.is_some_and(|counted| count != counted), Did::download_opened_anew_of_other_count),
             (by_reset.is_some_and(|counted| count == 0 && counted > 0), Did::download_opened_anew_after_reset),
         ]
     }
@@ -181,6 +180,11 @@ impl Board {
 
     pub(super) fn is_open(&self, c: usize) -> bool {
         self.downloads.as_ref().is_some_and(|downloads| downloads.of[c].open.is_some())
+    }
+
+    /// A channel with a download open that has these words.
+    pub(super) fn would_answer(&self, c: usize, asked: Portion) -> bool {
+        self.is_open(c) && self.has_words(c, asked)
     }
 
     /// What this call shows, which is counted when the other has shown it too.

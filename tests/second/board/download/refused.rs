@@ -18,7 +18,7 @@ impl Board {
             self.tally_rows(&rows);
         }
         let Ok(c) = c else { return };
-        if self.is_open(c) && self.has_words(c, asked) {
+        if self.would_answer(c, asked) {
             self.show(asked, &self.rows_of_lent(c, lent));
         }
         self.watch_download_kept(c, Did::download_kept_over_portion_refused_1);
@@ -47,9 +47,8 @@ impl Board {
     pub(super) fn tally_portion_of_no_channel(&mut self, asked: Portion) {
         let c = asked.c;
         let low = (c & 7) as usize;
-        let is_like = c > 7 && (1..=4).contains(&low) && self.is_open(low - 1) && self.has_words(low - 1, asked);
-        // a portion of some channel would have these words
-        let is_any = (0..4).any(|c| self.is_open(c) && self.has_words(c, asked));
+        let is_like = c > 7 && (1..=4).contains(&low) && self.would_answer(low - 1, asked);
+        let is_any = (0..4).any(|c| self.would_answer(c, asked));
         self.show(asked, &[
             (c == 0 && is_any, Did::download_refused_channel_0),
             (c == 5 && is_any, Did::download_refused_channel_5),
@@ -66,9 +65,10 @@ impl Board {
         let (count, m) = (self.counted(c) as u64, self.m as u64);
         let (first, end) = (asked.first as u64, asked.end());
         if asked.is_length {
-            self.tally_rows(&rows_of_length_0(asked, count, m));
             self.tally_rows(&rows_of_large(asked, count));
             self.tally_rows(&[
+                // no words: the number alone tells it from one that is answered
+                (asked.length == 0 && first == count + 1, Did::download_refused_length_0_one_past),
                 (count == 0 && first == 0 && end == 1, Did::download_refused_of_count_0),
                 (self.n == 0, Did::download_refused_on_closed_board),
             ]);
@@ -77,10 +77,7 @@ impl Board {
         // words stand there, past the retired part: the end word first
         self.show(asked, &[
             (first < count && end == count + 1, Did::download_refused_end_one_past),
-            (first < count && end > count + 1 && end < m, Did::download_refused_end_far_past),
-            (first == count && asked.length == 1 && m > 0, Did::download_refused_first_at_count),
             (first > count && first < m && asked.length > 0, Did::download_refused_first_past_count),
-            (first == 0 && end == m, Did::download_refused_whole_buffer),
             (first < count && end > m, Did::download_refused_end_past_depth),
             (self.m == 1 && first == 0 && end == 1, Did::download_refused_of_depth_1),
         ]);
@@ -88,33 +85,17 @@ impl Board {
     }
 }
 
-/// No words: the number alone tells it from one that is answered.
-fn rows_of_length_0(asked: Portion, count: u64, m: u64) -> Vec<(bool, Did)> {
-    let is_0 = asked.length == 0;
-    vec![
-        (is_0 && asked.first as u64 == count + 1, Did::download_refused_length_0_one_past),
-        (is_0 && asked.first as u64 > m, Did::download_refused_length_0_past_depth),
-        (is_0 && asked.first > i32::MAX as u32, Did::download_refused_length_0_far_past),
-    ]
-}
-
 /// Numbers so large that in fewer bits, or signed, their sum is not past the count.
 fn rows_of_large(asked: Portion, count: u64) -> Vec<(bool, Did)> {
     let Portion { first, length, .. } = asked;
     let is_wrapped = asked.end() > u32::MAX as u64;
-    let wrapped = first.wrapping_add(length) as u64;
-    let in_16_bits = |first: u32, length: u32| (first & 0xFFFF) as u64 + (length & 0xFFFF) as u64 <= count;
-    let signed = (first as i32).checked_add(length as i32).is_some_and(|end| (end as i64) <= count as i64);
+    let is_in_16_bits = (first & 0xFFFF) as u64 + (length & 0xFFFF) as u64 <= count;
+    let is_if_signed = (first as i32).checked_add(length as i32).is_some_and(|end| (end as i64) <= count as i64);
     vec![
-        (is_wrapped && wrapped == 0, Did::download_refused_sum_wraps_to_0),
-        (is_wrapped && wrapped > 0 && wrapped < count, Did::download_refused_sum_wraps_below_count),
-        (is_wrapped && wrapped > 0 && wrapped == count, Did::download_refused_sum_wraps_to_count),
-        (is_wrapped && wrapped > count, Did::download_refused_sum_wraps_past_count),
-        (first == u32::MAX, Did::download_refused_first_all_ones),
-        (length == u32::MAX, Did::download_refused_length_all_ones),
-        (first > 0xFFFF && length > 0 && in_16_bits(first, length), Did::download_refused_first_in_range_in_16_bits),
-        (length > 0xFFFF && in_16_bits(first, length), Did::download_refused_length_in_range_in_16_bits),
-        (!is_wrapped && first > i32::MAX as u32 && signed, Did::download_refused_first_below_0_if_signed),
-        (!is_wrapped && length > i32::MAX as u32 && signed, Did::download_refused_length_below_0_if_signed),
+        (is_wrapped && first.wrapping_add(length) as u64 <= count, Did::download_refused_in_range_if_sum_wraps),
+        (first > 0xFFFF && length > 0 && is_in_16_bits, Did::download_refused_first_in_range_in_16_bits),
+        (length > 0xFFFF && is_in_16_bits, Did::download_refused_length_in_range_in_16_bits),
+        (!is_wrapped && first > i32::MAX as u32 && is_if_signed, Did::download_refused_first_below_0_if_signed),
+        (!is_wrapped && length > i32::MAX as u32 && is_if_signed, Did::download_refused_length_below_0_if_signed),
     ]
 }
