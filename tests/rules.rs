@@ -57,8 +57,9 @@ const RECORDED: &[(&str, &str, usize, &str)] = &[
     (RULES, "card 5", 345, "ab694e216b2fd6b92f0f938b8a8f899bbc852fea7d7bf7b0216b4a8d0673b882"),
     (RULES, "card 6", 554, "84165e231def2525be3eb65caf5f920939e1fc4a7aa66f7de94dbfc3bf0935b3"),
     (RULES, "card 7", 625, "d6f5a8d7cfe11f20afd30e2aa335dbbaab455d4125cc10f055a058b3c70a26be"),
-    (DECISIONS, "document 01", 9453, "cc141b4c1c061f701a5003e4e4472b337b877c3acb15f18a70f7cdd67208ce37"),
-    (DECISIONS, "document 02", 3377, "4794d91d2cb3166527e7f297c72c9d1b37bb793a9a25937642857ef7c52ea54e"),
+    (RULES, "card 8", 637, "9eddcaf48318cc459ea961e5a83fec57648c4f0074605d73e58e549dd5155706"),
+    (DECISIONS, "document 01", 9551, "5154f1bebb3c3136c5f47dd285ec9617f4a53c64d170d66be50ff8ef701e6fe3"),
+    (DECISIONS, "document 02", 4020, "d8848ac6a537bf854f0de666170b9c484fd1d3173e318a7f63f9798c89e5bd32"),
 ];
 
 // The entries of DECISIONS.md that a page cites: "entry D1", "Entry D1", "entries D1 (..) and D2", "entries D1 to D2".
