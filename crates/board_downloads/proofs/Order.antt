@@ -8,7 +8,7 @@ use lib.Dec.{eqb}
 use borrow.Author.Tests.{eqb-true, eq-eqb, lt-ltb, le-ltb}
 use Rattle.board_state.specs.declared.Board.{Board}
 use Rattle.board_downloads.specs.Calls.{portionAnswer, portionLength}
-use Rattle.board_downloads.specs.Order.{Fit, Refused, PortionOrder}
+use Rattle.board_downloads.specs.Order.{Fit, Refused, PortionOrder, PortionOrdered}
 
 module _ (b : Board) (number index size : ℕ) (s t : List ℕ) where
   short : (Fit b number index size s t → ⊥) → Refused b number index size s t 1
@@ -20,9 +20,9 @@ module _ (b : Board) (number index size : ℕ) (s t : List ℕ) where
       go true p false q = (rw (p, q), rw (p, q))
       go false p y q = (rw p, rw p)
 
-  pub portion-order : PortionOrder b number index size s t
+  in-order : PortionOrder b number index size s t
   unfolding portionAnswer portionLength
-  portion-order =
+  in-order =
       record {
         lengths = short;
         channel = λ f e. let p = eq-eqb _ _ (f .0) in let q = eq-eqb _ _ (f .1) in (rw (p, q, e), rw (p, q, e));
@@ -30,3 +30,6 @@ module _ (b : Board) (number index size : ℕ) (s t : List ℕ) where
         range = λ f e o l. let p = eq-eqb _ _ (f .0) in let q = eq-eqb _ _ (f .1) in (rw (p, q, e, o, lt-ltb _ _ l), rw (p, q, e, o, lt-ltb _ _ l));
         served = λ f e o l. let p = eq-eqb _ _ (f .0) in let q = eq-eqb _ _ (f .1) in (rw (p, q, e, o, le-ltb _ _ l), rw (p, q, e, o, le-ltb _ _ l));
       }
+
+pub portion-ordered : PortionOrdered
+portion-ordered b number index size s t = in-order b number index size s t

@@ -13,7 +13,7 @@ ghost use Rattle.channel_core.specs.Answers.{outcomeOf};
 ghost use Rattle.channel.specs.Answers.{lengthOf};
 ghost use Rattle.channel.specs.Calls.{outside, activeBuffer, setpointRefusal, setpointAnswer, setpointWords, setArmed, retiredRefusal, retiredWords, retiredLength, mainBit, mainTaken};
 
-// The length of a part, of which one call gives the words and the call beside it this; and what a download has.
+// The length of a part, answered by the call beside the one that gives its words; or the count of a download as it is opened.
 pub enum PartLength {
     Words(usize),
     Refused(Refusal),
