@@ -1,2 +1,2 @@
 pub mod Portions
-pub mod Order
+pub mod Answering

@@ -90,7 +90,7 @@ pub record AdcWordsInRange (w : AdcWords) : Type 0 where
   pub fifth : AdcInRange (w .fifth)
   pub sixth : AdcInRange (w .sixth)
 
--- the count that an open download remembers is that of the retired part, which only a Group End or a reset changes: both end it
+-- the count that an open download remembers is that of the retired part, which only a Group End or a reset changes: both end it; with none open it is 0
 abbrev pub DownloadInRange : Download → Readbacks → Type 0
 DownloadInRange d r = d .count ≡ cond (d .opened) (r .retired) 0
 
