@@ -6,6 +6,7 @@
 //! its next send, one fewer or one more, the seventh reply, a buffer filled to the brim.
 
 mod acts;
+mod aside;
 mod commands;
 mod crc;
 mod dice;

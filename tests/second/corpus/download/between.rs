@@ -1,7 +1,8 @@
 //! What may come between two portions, and ends the download or leaves it open.
 
 use super::{open, portion, within, NO_CHANNEL};
-use crate::corpus::acts::{event_for, retired, Scene};
+use crate::corpus::acts::{event_for, Scene};
+use crate::corpus::aside::aside;
 use crate::corpus::missing::send;
 use crate::corpus::story::{reply, BASE, DEPTHS_N};
 use crate::corpus::tag::{load, resume};
@@ -139,33 +140,16 @@ fn idled(world: &mut World, s: &Scene) {
 fn left(world: &mut World, s: &Scene) {
     let d = s.d;
     let op = match d.below(19) {
-        0 => Op::User(world.board().user),
-        1 => Op::User(d.of(&[0, 9])),
-        2 => Op::Arm(s.c),
-        3 => Op::Write(s.at() + 8, 8),
-        4 => Op::Write(s.at() + 6, d.of(&[0, 2, 0xFFFE])),
-        5 | 6 => Op::Write(s.at() + 0xFC, d.of(&[1, 1, 2])),
-        7 => Op::Read(s.at() + d.of(&[2, 4])),
-        8 => Op::Read(s.at() + 0x0C),
-        9 => Op::Write(s.at() + d.of(&[0, 0x14, 0x24, 0x42, 0xE0]), d.below(65_536) as u16),
-        10 => inactive_word(world, s),
-        // most mean nothing to the channel
-        11 => Op::Event(d.below(256) as u8),
-        12 => Op::Volts { c: s.c, lent: 0 },
-        13 => Op::Download { c: d.of(NO_CHANNEL), lent: 0 },
-        14 | 15 => Op::Ticks(d.of(&[20, 35, 60])),
+        0..=10 => return aside(world, s),
+        11 | 12 => Op::Write(s.at() + 0xFC, 1),
+        13 => Op::Volts { c: s.c, lent: 0 },
+        14 => Op::Download { c: d.of(NO_CHANNEL), lent: 0 },
+        15 | 16 => Op::Ticks(d.of(&[20, 35, 60])),
         // a Start, or one more
-        16 => Op::Write(s.at() + 8, 1),
-        17 => return open(world, s),
-        _ => return retired(world, s),
+        17 => Op::Write(s.at() + 8, 1),
+        _ => return open(world, s),
     };
     world.put(op, d);
-}
-
-/// A setpoint for the buffer that is not active.
-fn inactive_word(world: &World, s: &Scene) -> Op {
-    let active = 1 + (s.now(world).active >> (s.user - 1) & 1) as u32;
-    Op::Set { c: s.c, user: s.user, buffer: 3 - active, index: 0, word: s.d.below(65_536) }
 }
 
 /// What would end it or go on beside it, but is refused.

@@ -1,7 +1,8 @@
 //! What may come between a reply and a voltages call, and loses the readings or leaves them.
 
 use super::{ask, readings, DEPTHS_AROUND_SIX, NO_CHANNEL};
-use crate::corpus::acts::{event_for, retired, Scene};
+use crate::corpus::acts::{event_for, Scene};
+use crate::corpus::aside::aside;
 use crate::corpus::commands::group_end;
 use crate::corpus::missing::send;
 use crate::corpus::story::{BASE, DEPTHS_N};
@@ -14,7 +15,7 @@ pub fn after(world: &mut World, s: &Scene) {
     match d.weighed(&[14, 22, 36, 14, 10, 18, 6, 6, for_pause, 4]) {
         0 => restart(world, s),
         1 => idled(world, s),
-        2 => left(world, s),
+        2 => aside(world, s),
         3 => refused(world, s),
         4 => {
             // a repeat, or the next word
@@ -66,33 +67,6 @@ fn idled(world: &mut World, s: &Scene) {
         world.put(Op::Arm(s.c), d);
         world.put(Op::Write(s.at() + 8, 1), d);
     }
-}
-
-/// What changes nothing in the readings.
-fn left(world: &mut World, s: &Scene) {
-    let d = s.d;
-    let op = match d.below(12) {
-        0 => Op::User(world.board().user),
-        1 => Op::User(d.of(&[0, 9])),
-        2 => Op::Arm(s.c),
-        3 => Op::Write(s.at() + 8, 8),
-        4 => Op::Write(s.at() + 6, 2),
-        5 => Op::Write(s.at() + 0xFC, d.of(&[1, 2, 2])),
-        6 => Op::Read(s.at() + d.of(&[2, 4])),
-        7 => Op::Read(s.at() + 0x0C),
-        8 => Op::Write(s.at() + d.of(&[0, 0x14, 0x24, 0x42, 0xE0]), d.below(65_536) as u16),
-        9 => inactive_word(world, s),
-        // most mean nothing to the channel
-        10 => Op::Event(d.below(256) as u8),
-        _ => return retired(world, s),
-    };
-    world.put(op, d);
-}
-
-/// A setpoint for the buffer that is not active.
-fn inactive_word(world: &World, s: &Scene) -> Op {
-    let active = 1 + (s.now(world).active >> (s.user - 1) & 1) as u32;
-    Op::Set { c: s.c, user: s.user, buffer: 3 - active, index: 0, word: s.d.below(65_536) }
 }
 
 /// What would lose them, but is refused.
