@@ -14,7 +14,7 @@ use Rattle.board_state.specs.State.{channelAt, withChannelAt}
 use Rattle.board_state.specs.Checks.{outOfRange, noChannel}
 use Rattle.board_channels.specs.Calls.{retiredRefusal}
 
--- ---- Opening, lent nothing
+-- ---- Opening, lent nothing: "remembers the retired count and answers it", and is refused 2 where there is no such channel
 
 unfoldable pub openedBoard : Board → (number : ℕ) → Board
 openedBoard b number = cond (noChannel number) b (withChannelAt b number (one.downloadOpened (channelAt b number)))
@@ -28,6 +28,7 @@ openingAnswer b number = cond (noChannel number) outOfRange (one.openingAnswer (
 abbrev pub portionRefusal : Board → (number index size k j : ℕ) → ℕ
 portionRefusal b number index size k j = then (retiredRefusal b number k j) (download.portionRefusal (channelAt b number .download) index size)
 
+-- none where there is no such channel, and else what the channel gives: "the empty part when refused"
 unfoldable pub portionWords : Board → (number index size : ℕ) → (s t : List ℕ) → List ℕ
 portionWords b number index size s t = cond (noChannel number) [] (one.portionWords (channelAt b number) (b .m) index size s t)
 

@@ -2,7 +2,7 @@
 -- keeps its words until a Group End or a reset. Assumes nothing.
 use Prim.Native.Nat.{ℕ, _+_, _*_, _≤_}
 use mathlib.Core.Path.{_≡_, refl, sym, _∙_, ap, subst}
-use mathlib.Core.Bool.{Bool, true, false, cond, _&&_, _||_}
+use mathlib.Core.Bool.{Bool, true, false, cond, _&&_, _||_, or-true}
 use mathlib.Core.List.{List, [], _∷_}
 use native.Mathlib.Omega.{arith}
 use lib.ListN.{length, take, drop, length-drop}
@@ -205,17 +205,13 @@ going-step o k words r ends again opens g h same =
       open-now = opened-step o k ∙ rw (ends, again) opens;
     }
 
-stays-open : (b : Bool) → (b || true) ≡ true
-stays-open true = refl
-stays-open false = refl
-
 going-from : (o : OneChannel) (ks : List ChannelCall) (words : List ℕ) → ChannelInRange (o .m) (o .channel) → Going o words → NoneEnds (history o ks)
     → Going (transitions o ks) words
 going-from o [] words r h none = h
 going-from o (k ∷ ks) words r h none =
     going-from (transition o k) ks words (channel-step o k r)
     (going-step o k words r (none .0) (none .1)
-    (ap (λ (b : Bool). opensDownload (entry o k) || b) (h .open-now) ∙ stays-open (opensDownload (entry o k))) (h .kept) (h .holds) (h .retired))
+    (ap (λ (b : Bool). opensDownload (entry o k) || b) (h .open-now) ∙ or-true (opensDownload (entry o k))) (h .kept) (h .holds) (h .retired))
     (none .2)
 
 -- an opening is not refused, and is neither a Group End nor a reset
