@@ -18,13 +18,14 @@ recordsOf size = cond (ltb size 16) Bad (cond (ltb 65536 size) Bad (cond (eqb (s
 unfoldable pub headerOf : List ℕ → Header
 headerOf s = record { n = number32 s 0; m = number32 s 4; seed = number32 s 8; mask = number32 s 12 }
 
--- Records, K from 1: kind, c, lent code, b, x, y, z
+-- Records, K from 1: kind, c, lent code and role, b, x, y, z
 unfoldable pub recordAt : List ℕ → ℕ → Record
 recordAt s k =
     record {
       kind = getD s (k * 16) 0;
       channel = getD s (k * 16 + 1) 0;
-      lent = getD s (k * 16 + 2) 0;
+      lent = getD s (k * 16 + 2) 0 % 16;
+      role = getD s (k * 16 + 2) 0 / 16 % 4;
       buffer = getD s (k * 16 + 3) 0;
       x = number32 s (k * 16 + 4);
       y = number32 s (k * 16 + 8);

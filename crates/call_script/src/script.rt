@@ -24,7 +24,10 @@ pub struct Header {
 pub struct Record {
     pub kind: u8,
     pub channel: u8,
+    // The low 4 bits of its byte.
     pub lent: u8,
+    // D5 and D4 of it.
+    pub role: u8,
     pub buffer: u8,
     pub x: u32,
     pub y: u32,
@@ -63,10 +66,12 @@ pub fn record_at(script: &[u8], number: u16) -> Record
     ensures { λ r. ⌜ r ≡ recordAt (now (script .entry)) number ⌝ }
 {
     let at = number as u32 * 16;
+    let codes = little_endian::byte_at(script, at + 2);
     Record {
         kind: little_endian::byte_at(script, at),
         channel: little_endian::byte_at(script, at + 1),
-        lent: little_endian::byte_at(script, at + 2),
+        lent: codes % 16,
+        role: codes / 16 % 4,
         buffer: little_endian::byte_at(script, at + 3),
         x: little_endian::u32_at(script, at + 4),
         y: little_endian::u32_at(script, at + 8),

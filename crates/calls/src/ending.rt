@@ -1,8 +1,9 @@
-// The last six lines (tests/CALLS.md, The end): the pools' digest, the interrupt level, the retired counts, and every register.
-use board_state::Board;
+// The last six lines (tests/CALLS.md, The end): the pools' digest, the interrupt level, the retired counts, and every register, all asked by the examiner.
+use access_control::GuardedBoard;
 use call_script::pool;
 use channel_registers::ReadOutcome;
 use output::Block;
+use permissions::Role;
 
 fn value(block: &mut Block, contents: u16) {
     output::text(block, b" ");
@@ -10,8 +11,8 @@ fn value(block: &mut Block, contents: u16) {
 }
 
 // A register's value; nothing at an address that is not read.
-fn register(block: &mut Block, b: Board, address: u32) -> Board {
-    let read = board_registers::read_register(b, address);
+fn register(block: &mut Block, b: GuardedBoard, address: u32) -> GuardedBoard {
+    let read = guarded_registers::read_register(b, Role::Examiner, address);
     let board = read.board;
     let outcome = read.outcome;
     match outcome {
@@ -22,7 +23,7 @@ fn register(block: &mut Block, b: Board, address: u32) -> Board {
 }
 
 // Every register of a channel, or of Main as channel 0, and the line's end.
-fn registers(block: &mut Block, b: Board, channel: u8) -> Board {
+fn registers(block: &mut Block, b: GuardedBoard, channel: u8) -> GuardedBoard {
     let mut board = b;
     let mut offset: u32 = 0;
     while offset < 0x800 {
@@ -33,19 +34,19 @@ fn registers(block: &mut Block, b: Board, channel: u8) -> Board {
     board
 }
 
-fn channel_line(block: &mut Block, b: Board, channel: u8) -> Board {
+fn channel_line(block: &mut Block, b: GuardedBoard, channel: u8) -> GuardedBoard {
     output::numbered(block, b"channel ", channel as u64);
     registers(block, b, channel)
 }
 
-fn channel_lines(block: &mut Block, b: Board) -> Board {
+fn channel_lines(block: &mut Block, b: GuardedBoard) -> GuardedBoard {
     let first = channel_line(block, b, 1);
     let second = channel_line(block, first, 2);
     let third = channel_line(block, second, 3);
     channel_line(block, third, 4)
 }
 
-fn main_line(block: &mut Block, b: Board) {
+fn main_line(block: &mut Block, b: GuardedBoard) {
     output::text(block, b"main");
     registers(block, b, 0);
 }
@@ -55,14 +56,14 @@ fn digest(block: &mut Block, setpoints: &[u32], readbacks: &[u32]) {
     output::hex_digest(block, pool::digest(setpoints, readbacks));
 }
 
-fn retired(block: &mut Block, b: Board, readbacks: &[u32]) {
+fn retired(block: &mut Block, b: GuardedBoard, readbacks: &[u32]) {
     output::text(block, b" retired");
     printed_calls::retired_counts(block, b, readbacks, b" ");
 }
 
-pub fn lines(block: &mut Block, b: Board, setpoints: &[u32], readbacks: &[u32]) {
+pub fn lines(block: &mut Block, b: GuardedBoard, setpoints: &[u32], readbacks: &[u32]) {
     digest(block, setpoints, readbacks);
-    printed_calls::interrupt_level(block, b);
+    printed_calls::interrupt_level(block, b, Role::Examiner);
     retired(block, b, readbacks);
     output::end_line(block);
     let board = channel_lines(block, b);

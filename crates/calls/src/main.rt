@@ -1,8 +1,9 @@
 // Reads a call script (tests/CALLS.md) from standard input, makes its calls on one board and prints each answer.
 mod ending;
 
-use board_state::Board;
+use access_control::GuardedBoard;
 use call_script::pool;
+use call_script::roles;
 use call_script::script;
 use call_script::script::Header;
 use call_script::script::Records;
@@ -10,12 +11,13 @@ use libc::STDIN_FILENO;
 use output::Block;
 
 // Opens the board of the header, and prints the answer as record 0.
-fn begin(block: &mut Block, header: Header, setpoints: &[u32], readbacks: &[u32]) -> Board {
+fn begin(block: &mut Block, header: Header, setpoints: &[u32], readbacks: &[u32]) -> GuardedBoard {
     output::decimal(block, 0);
     let board = script_record::open(
         block,
         header.n,
         header.m,
+        roles::board_rights(0xff, 0x0f),
         setpoints,
         header.n as usize * 64,
         readbacks,
@@ -28,12 +30,12 @@ fn begin(block: &mut Block, header: Header, setpoints: &[u32], readbacks: &[u32]
 // Every record of the script.
 fn records(
     block: &mut Block,
-    b: Board,
+    b: GuardedBoard,
     script: &[u8],
     count: u16,
     setpoints: &mut [u32],
     readbacks: &mut [u32],
-) -> Board {
+) -> GuardedBoard {
     let mut board = b;
     let mut number: u16 = 0;
     while number < count {

@@ -8,3 +8,4 @@ pub mod TagRows
 pub mod ReadingRows
 pub mod Reached
 pub mod DownloadRows
+pub mod RoleRows

@@ -7,3 +7,4 @@ pub mod EndWordRows
 pub mod TagRows
 pub mod ReadingRows
 pub mod DownloadRows
+pub mod RoleRows

@@ -58,7 +58,7 @@ module _ (c : ℕ) (h : Number c) (w : World) where
         bothBuffers = refl;
       }
 
-  shown : (o : OneChannel) → view c w ≡ o → Shows (o .n) (o .m) c w o
+  pub shown : (o : OneChannel) → view c w ≡ o → Shows (o .n) (o .m) c w o
   shown o e = subst (λ (p : OneChannel). Shows (p .n) (p .m) c w p) e view-shown
 
 pub isolation-shown : IsolationShown

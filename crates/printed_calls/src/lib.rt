@@ -1,13 +1,16 @@
-// The board's calls, each with its answer printed: the words of tests/CALLS.md, Records, after the record's number.
-use board_state::Board;
-use board_state::Written;
+// The calls by role, each with its answer printed: the words of tests/CALLS.md, Records, after the record's number.
+use access_control::GuardedBoard;
+use access_control::Written;
 use call_script::lent;
 use call_script::pool;
 use channel::PartLength;
 use channel_core::Outcome;
 use channel_registers::ReadOutcome;
 use channel_replies::Receipt;
+use guarded_board::InterruptLevel;
 use output::Block;
+use permissions::BoardRights;
+use permissions::Role;
 use refusal::Refusal;
 
 pub fn ok(block: &mut Block) {
@@ -47,32 +50,43 @@ fn receipt(block: &mut Block, answer: Receipt) {
 }
 
 // Prints the outcome, and hands on the board after the call.
-fn done(block: &mut Block, written: Written) -> Board {
+fn done(block: &mut Block, written: Written) -> GuardedBoard {
     let board = written.board;
     let answer = written.outcome;
     outcome(block, answer);
     board
 }
 
-pub fn open(block: &mut Block, n: u32, m: u32, setpoints: &[u32], readbacks: &[u32]) -> Board {
-    done(block, board::open(n, m, setpoints, readbacks))
+pub fn open(
+    block: &mut Block,
+    n: u32,
+    m: u32,
+    rights: BoardRights,
+    setpoints: &[u32],
+    readbacks: &[u32],
+) -> GuardedBoard {
+    done(
+        block,
+        guarded_board::open(n, m, rights, setpoints, readbacks),
+    )
 }
 
 pub fn write_register(
     block: &mut Block,
-    b: Board,
+    b: GuardedBoard,
+    role: Role,
     readbacks: &mut [u32],
     address: u32,
     value: u16,
-) -> Board {
+) -> GuardedBoard {
     done(
         block,
-        board_registers::write_register(b, readbacks, address, value),
+        guarded_registers::write_register(b, role, readbacks, address, value),
     )
 }
 
-pub fn read_register(block: &mut Block, b: Board, address: u32) -> Board {
-    let read = board_registers::read_register(b, address);
+pub fn read_register(block: &mut Block, b: GuardedBoard, role: Role, address: u32) -> GuardedBoard {
+    let read = guarded_registers::read_register(b, role, address);
     let board = read.board;
     let answer = read.outcome;
     read_outcome(block, answer);
@@ -81,31 +95,39 @@ pub fn read_register(block: &mut Block, b: Board, address: u32) -> Board {
 
 pub fn write_setpoint(
     block: &mut Block,
-    b: Board,
+    b: GuardedBoard,
+    role: Role,
     setpoints: &mut [u32],
     number: u32,
     user: u32,
     buffer: u32,
     index: u32,
     word: u32,
-) -> Board {
+) -> GuardedBoard {
     outcome(
         block,
-        board_channels::write_setpoint(b, setpoints, number, user, buffer, index, word),
+        guarded_channels::write_setpoint(b, role, setpoints, number, user, buffer, index, word),
     );
     b
 }
 
-pub fn arm(block: &mut Block, b: Board, number: u32) -> Board {
-    done(block, board_channels::arm(b, number))
+pub fn arm(block: &mut Block, b: GuardedBoard, role: Role, number: u32) -> GuardedBoard {
+    done(block, guarded_channels::arm(b, role, number))
 }
 
-pub fn disarm(block: &mut Block, b: Board, number: u32) -> Board {
-    done(block, board_channels::disarm(b, number))
+pub fn disarm(block: &mut Block, b: GuardedBoard, role: Role, number: u32) -> GuardedBoard {
+    done(block, guarded_channels::disarm(b, role, number))
 }
 
-pub fn reply(block: &mut Block, b: Board, readbacks: &mut [u32], number: u32, frame: u64) -> Board {
-    let received = board_channels::reply(b, readbacks, number, frame);
+pub fn reply(
+    block: &mut Block,
+    b: GuardedBoard,
+    role: Role,
+    readbacks: &mut [u32],
+    number: u32,
+    frame: u64,
+) -> GuardedBoard {
+    let received = guarded_channels::reply(b, role, readbacks, number, frame);
     let board = received.board;
     let answer = received.receipt;
     receipt(block, answer);
@@ -138,25 +160,37 @@ pub fn length(block: &mut Block, answer: PartLength) {
     }
 }
 
-pub fn retired<'a>(block: &mut Block, b: Board, number: u32, one: &'a [u32], two: &'a [u32]) {
-    part(block, board_channels::retired(b, number, one, two));
-}
-
-pub fn retired_length<'a>(
+pub fn retired<'a>(
     block: &mut Block,
-    b: Board,
+    b: GuardedBoard,
+    role: Role,
     number: u32,
     one: &'a [u32],
     two: &'a [u32],
 ) {
-    length(block, board_channels::retired_length(b, number, one, two));
+    part(block, guarded_readings::retired(b, role, number, one, two));
 }
 
-// A channel's retired count, asked with its own two buffers, after these words.
-fn retired_count(block: &mut Block, b: Board, readbacks: &[u32], channel: u8, words: &[u8]) {
-    let one = pool::part(readbacks, lent::first_buffer(0, b.m, channel));
-    let two = pool::part(readbacks, lent::second_buffer(0, b.m, channel));
-    let length = board_channels::retired_length(b, channel as u32, one, two);
+pub fn retired_length<'a>(
+    block: &mut Block,
+    b: GuardedBoard,
+    role: Role,
+    number: u32,
+    one: &'a [u32],
+    two: &'a [u32],
+) {
+    length(
+        block,
+        guarded_readings::retired_length(b, role, number, one, two),
+    );
+}
+
+// A channel's retired count, asked by the examiner with its own two buffers, after these words.
+fn retired_count(block: &mut Block, b: GuardedBoard, readbacks: &[u32], channel: u8, words: &[u8]) {
+    let board = b.board;
+    let one = pool::part(readbacks, lent::first_buffer(0, board.m, channel));
+    let two = pool::part(readbacks, lent::second_buffer(0, board.m, channel));
+    let length = guarded_readings::retired_length(b, Role::Examiner, channel as u32, one, two);
     match length {
         PartLength::Words(count) => output::numbered(block, words, count as u64),
         PartLength::Refused(_) => {}
@@ -164,21 +198,31 @@ fn retired_count(block: &mut Block, b: Board, readbacks: &[u32], channel: u8, wo
 }
 
 // The retired counts of channels 1 to 4.
-pub fn retired_counts(block: &mut Block, b: Board, readbacks: &[u32], words: &[u8]) {
+pub fn retired_counts(block: &mut Block, b: GuardedBoard, readbacks: &[u32], words: &[u8]) {
     retired_count(block, b, readbacks, 1, words);
     retired_count(block, b, readbacks, 2, words);
     retired_count(block, b, readbacks, 3, words);
     retired_count(block, b, readbacks, 4, words);
 }
 
-pub fn event(block: &mut Block, b: Board, readbacks: &mut [u32], code: u8) -> Board {
-    done(block, board::event(b, readbacks, code))
+pub fn event(
+    block: &mut Block,
+    b: GuardedBoard,
+    role: Role,
+    readbacks: &mut [u32],
+    code: u8,
+) -> GuardedBoard {
+    done(block, guarded_board::event(b, role, readbacks, code))
 }
 
-pub fn change_user(block: &mut Block, b: Board, user: u32) -> Board {
-    done(block, board::change_user(b, user))
+pub fn change_user(block: &mut Block, b: GuardedBoard, role: Role, user: u32) -> GuardedBoard {
+    done(block, guarded_board::change_user(b, role, user))
 }
 
-pub fn interrupt_level(block: &mut Block, b: Board) {
-    output::numbered(block, b" level ", board::interrupt_level(b) as u64);
+pub fn interrupt_level(block: &mut Block, b: GuardedBoard, role: Role) {
+    let answer = guarded_board::interrupt_level(b, role);
+    match answer {
+        InterruptLevel::Level(level) => output::numbered(block, b" level ", level as u64),
+        InterruptLevel::Refused(reason) => refused(block, reason),
+    }
 }

@@ -1,9 +1,11 @@
-// A channel's download, opened and in portions, with the answers printed: the words of tests/CALLS.md, kinds 16 to 18, after the record's number.
-use board_state::Board;
+// A channel's download by role, opened and in portions, with the answers printed: the words of tests/CALLS.md, kinds 16 to 18, after the record's number.
+use access_control::GuardedBoard;
+use guarded_readings::download;
 use output::Block;
+use permissions::Role;
 
-pub fn open(block: &mut Block, b: Board, number: u32) -> Board {
-    let opened = board_downloads::open(b, number);
+pub fn open(block: &mut Block, b: GuardedBoard, role: Role, number: u32) -> GuardedBoard {
+    let opened = download::open(b, role, number);
     let board = opened.board;
     let length = opened.length;
     printed_calls::length(block, length);
@@ -12,7 +14,8 @@ pub fn open(block: &mut Block, b: Board, number: u32) -> Board {
 
 pub fn portion<'a>(
     block: &mut Block,
-    b: Board,
+    b: GuardedBoard,
+    role: Role,
     number: u32,
     index: u32,
     size: u32,
@@ -21,13 +24,14 @@ pub fn portion<'a>(
 ) {
     printed_calls::part(
         block,
-        board_downloads::portion(b, number, index, size, one, two),
+        download::portion(b, role, number, index, size, one, two),
     );
 }
 
 pub fn portion_length<'a>(
     block: &mut Block,
-    b: Board,
+    b: GuardedBoard,
+    role: Role,
     number: u32,
     index: u32,
     size: u32,
@@ -36,6 +40,6 @@ pub fn portion_length<'a>(
 ) {
     printed_calls::length(
         block,
-        board_downloads::portion_length(b, number, index, size, one, two),
+        download::portion_length(b, role, number, index, size, one, two),
     );
 }

@@ -1,8 +1,9 @@
-// The readings of a channel, printed: the words of tests/CALLS.md, kind 15, after the record's number.
+// The readings of a channel by role, printed: the words of tests/CALLS.md, kind 15, after the record's number.
+use access_control::GuardedBoard;
 use board_readings::Measurement;
-use board_state::Board;
 use channel_readings::Reading;
 use output::Block;
+use permissions::Role;
 
 // The whole part of a number; 0 of one that a u64 does not hold.
 fn whole_part(x: f64) -> u64 {
@@ -31,8 +32,8 @@ fn reading(block: &mut Block, answer: Reading) {
     }
 }
 
-pub fn last_readings(block: &mut Block, b: Board, number: u32) {
-    let answer = board_readings::last_readings(b, number);
+pub fn last_readings(block: &mut Block, b: GuardedBoard, role: Role, number: u32) {
+    let answer = guarded_readings::last_readings(b, role, number);
     match answer {
         Measurement::Readings(readings) => {
             let third = readings.third;

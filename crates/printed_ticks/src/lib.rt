@@ -1,8 +1,10 @@
-// Ticks in a row, each frame printed with its tick and channel: the words of tests/CALLS.md, Records, kind 9.
+// Ticks in a row by role, each frame that it is shown printed with its tick and channel: the words of tests/CALLS.md, Records, kind 9.
+use access_control::GuardedBoard;
 use board::Frames;
 use board_state::Board;
 use channel_ticks::quiet::least;
 use output::Block;
+use permissions::Role;
 ghost use mathlib.Core.Path.{_≡_};
 ghost use Prim.Native.Nat.{_<_, _≤_};
 
@@ -41,18 +43,42 @@ fn by_tick(
     }
 }
 
+// The frames of a channel in the board's next so many ticks, if the role is shown them.
+fn capture(
+    g: GuardedBoard,
+    role: Role,
+    setpoints: &[u32],
+    number: u32,
+    count: u32,
+    frames: &mut Captured,
+)
+    requires { ⌜ count ≤ 128 ⌝ }
+{
+    let rights = g.rights;
+    if rights.may_read(role, number) {
+        board_ticks::frames(g.board, setpoints, number, count, frames);
+    }
+}
+
 // The frames of the board's next so many ticks, which come after the first `before`.
-fn frames(block: &mut Block, b: Board, setpoints: &[u32], before: u32, count: u32)
+fn frames(
+    block: &mut Block,
+    g: GuardedBoard,
+    role: Role,
+    setpoints: &[u32],
+    before: u32,
+    count: u32,
+)
     requires { ⌜ count ≤ 128 ⌝ }
 {
     let mut first = [0u64; 128];
     let mut second = [0u64; 128];
     let mut third = [0u64; 128];
     let mut fourth = [0u64; 128];
-    board_ticks::frames(b, setpoints, 1, count, &mut first);
-    board_ticks::frames(b, setpoints, 2, count, &mut second);
-    board_ticks::frames(b, setpoints, 3, count, &mut third);
-    board_ticks::frames(b, setpoints, 4, count, &mut fourth);
+    capture(g, role, setpoints, 1, count, &mut first);
+    capture(g, role, setpoints, 2, count, &mut second);
+    capture(g, role, setpoints, 3, count, &mut third);
+    capture(g, role, setpoints, 4, count, &mut fourth);
     by_tick(block, before, count, &first, &second, &third, &fourth);
 }
 
@@ -77,45 +103,67 @@ fn at_once(quiet: u32, rest: u32) -> u32
     128
 }
 
-fn after(b: Board, setpoints: &[u32], count: u32) -> Board {
-    let advanced = board_ticks::ticks(b, setpoints, count);
+fn after(g: GuardedBoard, setpoints: &[u32], count: u32) -> GuardedBoard {
+    let advanced = board_ticks::ticks(g.board, setpoints, count);
     let board = advanced.board;
-    board
+    let rights = g.rights;
+    GuardedBoard {
+        board: board,
+        rights: rights,
+    }
 }
 
-// As many ticks, each with its frames. Those on which no channel acts are jumped over.
-fn each_tick(block: &mut Block, b: Board, setpoints: &[u32], count: u32) -> Board {
-    let mut board = b;
+// As many ticks, each with the frames that the role is shown. Those on which no channel acts are jumped over.
+fn each_tick(
+    block: &mut Block,
+    g: GuardedBoard,
+    role: Role,
+    setpoints: &[u32],
+    count: u32,
+) -> GuardedBoard {
+    let mut guarded = g;
     let mut before: u32 = 0;
     while before < count {
-        let quiet = quiet_of(board, count - before);
+        let quiet = quiet_of(guarded.board, count - before);
         let batch = at_once(quiet, count - before);
         if quiet == 0 {
-            frames(block, board, setpoints, before, batch);
+            frames(block, guarded, role, setpoints, before, batch);
         }
-        board = after(board, setpoints, batch);
+        guarded = after(guarded, setpoints, batch);
         before += batch;
     }
-    board
+    guarded
 }
 
-fn taken(block: &mut Block, b: Board, setpoints: &[u32], count: u32) -> Board {
+fn taken(
+    block: &mut Block,
+    g: GuardedBoard,
+    role: Role,
+    setpoints: &[u32],
+    count: u32,
+) -> GuardedBoard {
     output::text(block, b" ticks");
-    each_tick(block, b, setpoints, count)
+    each_tick(block, g, role, setpoints, count)
 }
 
 // As many ticks. All of them are refused or none is: a tick whose board is dropped tells.
-pub fn ticks(block: &mut Block, b: Board, setpoints: &[u32], count: u32) -> Board {
+pub fn ticks(
+    block: &mut Block,
+    g: GuardedBoard,
+    role: Role,
+    setpoints: &[u32],
+    count: u32,
+) -> GuardedBoard {
     if count == 0 {
-        return taken(block, b, setpoints, 0);
+        return taken(block, g, role, setpoints, 0);
     }
-    let trial = board::tick(b, setpoints);
+    let trial = guarded_board::tick(g, role, setpoints);
     let frames = trial.frames;
     match frames {
-        Frames::Each(_, _, _, _) => taken(block, b, setpoints, count),
+        Frames::Each(_, _, _, _) => taken(block, g, role, setpoints, count),
         Frames::Refused(reason) => {
             printed_calls::refused(block, reason);
-            b
+            g
         }
     }
 }

@@ -19,3 +19,4 @@ refuses refusal.BadRecord = refl
 refuses refusal.FunctionActive = refl
 refuses refusal.InvalidRamp = refl
 refuses refusal.NoDownload = refl
+refuses refusal.PermissionDenied = refl

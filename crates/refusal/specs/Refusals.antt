@@ -19,6 +19,7 @@ numberOf refusal.BadRecord = 9
 numberOf refusal.FunctionActive = 10
 numberOf refusal.InvalidRamp = 11
 numberOf refusal.NoDownload = 12
+numberOf refusal.PermissionDenied = 13
 
 -- the number that each case of a verdict stands for; 0 is no refusal
 abbrev pub verdictNumber : Verdict → ℕ

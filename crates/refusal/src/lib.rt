@@ -28,6 +28,8 @@ pub enum Refusal {
     InvalidRamp,
     // overtaken
     NoDownload,
+    // not your seat
+    PermissionDenied,
 }
 
 // Whether a call is refused, and by which refusal.
@@ -52,5 +54,6 @@ pub fn number(refusal: Refusal) -> u8
         Refusal::FunctionActive => 10,
         Refusal::InvalidRamp => 11,
         Refusal::NoDownload => 12,
+        Refusal::PermissionDenied => 13,
     }
 }

@@ -5,3 +5,4 @@ pub mod Runs
 pub mod RefusedRecords
 pub mod Observed
 pub mod OneChannelFrames
+pub mod ExaminerRuns

@@ -1,3 +1,4 @@
 pub mod Drawn
 pub mod RefusedRecords
 pub mod OneChannelFrames
+pub mod ExaminerRuns

@@ -1,43 +1,67 @@
-// Reads a run file from standard input, makes its records' calls on one board and prints each answer, then what the memory holds. One byte past 65,536 is enough to know a longer file.
-use board_state::Board;
+// Reads a run file from standard input, makes its records' calls on one board as the examiner and prints each answer, then what the memory holds. One byte past 65,536 is enough to know a longer file.
+use access_control::GuardedBoard;
 use libc::STDIN_FILENO;
 use output::Block;
+use permissions::BoardRights;
+use permissions::Role;
 use records::RecordsLength;
 use records::Request;
 use refusal::Refusal;
 
-// A record's call, and the board after it.
+// A record's call, which is the examiner's, and the board after it.
 fn call(
     block: &mut Block,
-    b: Board,
+    b: GuardedBoard,
     setpoints: &mut [u32],
     readbacks: &mut [u32],
     request: Request,
-) -> Board {
+) -> GuardedBoard {
     match request {
         Request::Write { address, value } => {
-            printed_calls::write_register(block, b, readbacks, address, value)
+            printed_calls::write_register(block, b, Role::Examiner, readbacks, address, value)
         }
-        Request::Read { address } => printed_calls::read_register(block, b, address),
+        Request::Read { address } => printed_calls::read_register(
+            block,
+            b,
+            Role::Examiner,
+            address,
+        ),
         Request::Setpoint {
             number,
             user,
             buffer,
             index,
             word,
-        } => printed_calls::write_setpoint(block, b, setpoints, number, user, buffer, index, word),
-        Request::Event { code } => printed_calls::event(block, b, readbacks, code),
-        Request::Ticks { count } => printed_ticks::ticks(block, b, setpoints, count),
+        } => printed_calls::write_setpoint(
+            block,
+            b,
+            Role::Examiner,
+            setpoints,
+            number,
+            user,
+            buffer,
+            index,
+            word,
+        ),
+        Request::Event { code } => printed_calls::event(block, b, Role::Examiner, readbacks, code),
+        Request::Ticks { count } => printed_ticks::ticks(
+            block,
+            b,
+            Role::Examiner,
+            setpoints,
+            count,
+        ),
         Request::Reply { number, frame } => printed_calls::reply(
             block,
             b,
+            Role::Examiner,
             readbacks,
             number,
             frame,
         ),
-        Request::User { user } => printed_calls::change_user(block, b, user),
-        Request::Arm { number } => printed_calls::arm(block, b, number),
-        Request::Disarm { number } => printed_calls::disarm(block, b, number),
+        Request::User { user } => printed_calls::change_user(block, b, Role::Examiner, user),
+        Request::Arm { number } => printed_calls::arm(block, b, Role::Examiner, number),
+        Request::Disarm { number } => printed_calls::disarm(block, b, Role::Examiner, number),
         Request::Bad => {
             printed_calls::refused(block, Refusal::BadRecord);
             b
@@ -48,12 +72,12 @@ fn call(
 // One record's line.
 fn line(
     block: &mut Block,
-    b: Board,
+    b: GuardedBoard,
     setpoints: &mut [u32],
     readbacks: &mut [u32],
     request: Request,
     number: usize,
-) -> Board {
+) -> GuardedBoard {
     output::decimal(block, number as u64);
     let board = call(block, b, setpoints, readbacks, request);
     output::end_line(block);
@@ -63,11 +87,11 @@ fn line(
 // Every record of the part.
 fn play(
     block: &mut Block,
-    b: Board,
+    b: GuardedBoard,
     part: &[u8],
     setpoints: &mut [u32],
     readbacks: &mut [u32],
-) -> Board {
+) -> GuardedBoard {
     let mut board = b;
     let mut number: usize = 0;
     while number < part.len() / 8 {
@@ -99,7 +123,7 @@ fn words(block: &mut Block, memory: &[u32]) {
 }
 
 // The line after the records: the readback memory, and the retired counts.
-fn end(block: &mut Block, b: Board, readbacks: &[u32]) {
+fn end(block: &mut Block, b: GuardedBoard, readbacks: &[u32]) {
     output::text(block, b"end");
     words(block, readbacks);
     printed_calls::retired_counts(block, b, readbacks, b" r");
@@ -110,7 +134,7 @@ fn end(block: &mut Block, b: Board, readbacks: &[u32]) {
 fn trace(block: &mut Block, part: &[u8]) {
     let mut setpoints = [0u32; 1024];
     let mut readbacks = [0u32; 512];
-    let opened = board::open(16, 64, &setpoints, &readbacks);
+    let opened = guarded_board::open(16, 64, BoardRights::none(), &setpoints, &readbacks);
     let board = opened.board;
     let played = play(block, board, part, &mut setpoints, &mut readbacks);
     end(block, played, &readbacks);

@@ -1,0 +1,15 @@
+pub mod Earlier
+pub mod Later
+pub mod Laws
+pub mod Verdicts
+pub mod Worlds
+pub mod Granted
+pub mod Fed
+pub mod GrantedFed
+pub mod Isolation
+pub mod Shown
+pub mod Hiding
+pub mod Same
+pub mod Answers
+pub mod Noninterference
+pub mod Examples

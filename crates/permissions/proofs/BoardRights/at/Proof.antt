@@ -1,0 +1,45 @@
+use borrow.Author.Tests.{lt-ltb, le-ltb, le-leb, lt-leb, eq-eqb, ne-eqb}
+use borrow.Author.Needs.{needs}
+use Rattle.permissions.proofs.BoardRights.at.Statement.{statement}
+use Rattle.permissions.proofs.BoardRights.at.Tie as tie
+use Rattle.permissions.proofs.BoardRights.at.Reads as reads
+use Rattle.permissions.proofs.BoardRights.at.Lts as lts
+use Rattle.permissions.proofs.none.Reads as none-reads
+
+-- src/lib.rt:57:18
+none-requires : tie.Need-none-requires
+none-requires c κs = search needs
+
+-- src/lib.rt:49:5
+returns : tie.Need-returns
+returns c =
+    rw (c .before .match .keys1)
+
+-- src/lib.rt:49:5
+returns-2 : tie.Need-returns-2
+returns-2 c =
+    rw (c .before .match .keys2)
+
+-- src/lib.rt:49:5
+returns-3 : tie.Need-returns-3
+returns-3 c =
+    rw (c .before .match .keys3)
+
+-- src/lib.rt:49:5
+returns-4 : tie.Need-returns-4
+returns-4 c =
+    rw (c .before .match .keys4)
+
+-- src/lib.rt:49:5
+returns-5 : tie.Need-returns-5
+returns-5 c =
+    simp (
+      c .none .ensures,
+      ne-eqb _ _ (c .before .match .rest .0 .0 .0 .1),
+      ne-eqb _ _ (c .before .match .rest .0 .0 .1),
+      ne-eqb _ _ (c .before .match .rest .0 .1),
+      ne-eqb _ _ (c .before .match .rest .1),
+    )
+
+pub at-spec : {M : Type 1} → statement M
+at-spec = tie.close (tie.spec none-requires returns returns-2 returns-3 returns-4 returns-5)
