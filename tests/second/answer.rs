@@ -1,6 +1,7 @@
 //! The answers to calls, as `trace` and `calls` print them.
 
 use crate::board::{Board, Reply};
+use crate::role::Role;
 use crate::volts::Reading;
 use std::fmt;
 
@@ -57,16 +58,15 @@ pub fn answer<T>(result: Result<T, u8>, show: impl FnOnce(T) -> Answer) -> Answe
 }
 
 /// As many ticks; the first that is refused is the answer.
-pub fn ticks(board: &mut Board, setpoints: &[u32], count: u32) -> Answer {
+pub fn ticks(board: &mut Board, role: Role, setpoints: &[u32], count: u32) -> Answer {
     let mut sent = Vec::new();
-    board.tally_ticks(setpoints, count);
+    board.tally_ticks(role, setpoints, count);
     board.watch_record();
     board.watch_tag_record();
     board.watch_volts_record();
     for t in 1..=count {
-        match board.tick(setpoints) {
-            Ok(frames) => sent.extend((1..=4).filter_map(|c| frames[c - 1].map(|frame| (t, c, frame)))),
-            Err(n) => return Answer::Refused(n),
+        if let Err(n) = board.tick(role, setpoints, |c, frame| sent.push((t, c + 1, frame))) {
+            return Answer::Refused(n);
         }
     }
     board.watch_download_ticks(count);

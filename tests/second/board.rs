@@ -1,6 +1,8 @@
 //! The four-channel board, from documents 01, 000 and 02: its calls. Quotations are document 01's.
 
+mod access;
 mod command;
+mod copies;
 mod crc;
 mod download;
 mod end_word;
@@ -12,12 +14,15 @@ mod refused;
 mod replies;
 mod rows;
 mod sending;
+mod setpoint;
 mod tag;
 mod volts;
 
 pub use self::download::Portion;
 pub use self::peek::Peek;
 pub use self::replies::Reply;
+pub use self::setpoint::Setpoint;
+use self::access::{may_examine, may_run};
 use self::crc::Unread;
 use self::download::Downloads;
 use self::end_word::Groups;
@@ -26,7 +31,8 @@ use self::missing::Watch;
 use self::tag::{Dropped, Tags};
 use self::volts::{Idled, WatchedVolts};
 use crate::channel::{Channel, Window, CLOCK, SWITCH, TAG};
-use crate::map::{place, rule, Place};
+use crate::map::{check_way, place, rule, Place};
+use crate::role::{Access, Role};
 use crate::tally::{Did, Tally};
 
 #[derive(Clone)]
@@ -34,6 +40,8 @@ pub struct Board {
     pub n: u32,
     pub m: u32,
     pub user: u32,
+    /// What the opening gave.
+    access: Access,
     now: u64,
     /// Main 22, 24, 26.
     level: u16,
@@ -56,11 +64,12 @@ pub struct Board {
 
 impl Board {
     /// "all registers 0, channels disarmed, user 1, buffers 1 active, no readbacks"
-    fn blank(n: u32, m: u32) -> Board {
+    fn blank(n: u32, m: u32, access: Access) -> Board {
         Board {
             n,
             m,
             user: 1,
+            access,
             now: 0,
             level: 0,
             vector: 0,
@@ -78,16 +87,16 @@ impl Board {
     }
 
     /// Misfit: "a depth out of range, or lent lengths other than 64 × N and 8 × M". What a
-    /// refused opening leaves is a closed board, of depths 0.
-    pub fn open(n: u32, m: u32, setpoints: usize, readbacks: usize) -> (Board, Result<(), u8>) {
+    /// refused opening leaves is a closed board, of depths 0, with the permissions that it named.
+    pub fn open(n: u32, m: u32, setpoints: usize, readbacks: usize, access: Access) -> (Board, Result<(), u8>) {
         let fits = (1..=1_048_576).contains(&n)
             && (1..=8_388_608).contains(&m)
             && setpoints as u64 == 64 * n as u64
             && readbacks as u64 == 8 * m as u64;
         if fits {
-            (Board::blank(n, m), Ok(()))
+            (Board::blank(n, m, access), Ok(()))
         } else {
-            let mut b = Board::blank(0, 0);
+            let mut b = Board::blank(0, 0, access);
             b.tally.add(Did::open_refused);
             (b, Err(1))
         }
@@ -104,10 +113,13 @@ impl Board {
         if (1..=4).contains(&c) { Ok(c as usize - 1) } else { Err(2) }
     }
 
-    /// Refusals 1, 3, 4, 10, 5.
-    pub fn write(&mut self, address: u32, value: u16, readbacks: &mut [u32]) -> Result<(), u8> {
+    /// Refusals 1, 3, 13, 4, 10, 5.
+    pub fn write(&mut self, role: Role, address: u32, value: u16, readbacks: &mut [u32]) -> Result<(), u8> {
         self.readbacks_fit(readbacks).inspect_err(|_| self.tally_write_refused(address, value))?;
-        let (c, offset) = match place(address, true).inspect_err(|&n| self.tally_missing_written(address, n))? {
+        let place = place(address)?;
+        self.may_write_register(role, place)?;
+        check_way(place, true).inspect_err(|_| self.tally_missing_written(address))?;
+        let (c, offset) = match place {
             Place::Main(0x22) => return Ok(self.level = value & 7),
             Place::Main(0x24) => return Ok(self.vector = value),
             Place::Main(_) => return Ok(self.enable = value & 0xF7),
@@ -160,10 +172,13 @@ impl Board {
         self.ch[c].w[at] = kept;
     }
 
-    /// Refusals 3, 4. "Reading a status clears the latched bits (all of a channel's, D7–D3 of
+    /// Refusals 3, 13, 4. "Reading a status clears the latched bits (all of a channel's, D7–D3 of
     /// Main) of that register only."
-    pub fn read(&mut self, address: u32) -> Result<u16, u8> {
-        match place(address, false)? {
+    pub fn read(&mut self, role: Role, address: u32) -> Result<u16, u8> {
+        let place = place(address)?;
+        self.may_read_register(role, place)?;
+        check_way(place, false)?;
+        match place {
             Place::Main(0x22) => Ok(self.level),
             Place::Main(0x24) => Ok(self.vector),
             Place::Main(0x26) => Ok(self.enable),
@@ -199,33 +214,10 @@ impl Board {
         }
     }
 
-    /// Refusals 1, 2, 6. The memory is "by channel, user, buffer 1 or 2, index".
-    pub fn set(&mut self, c: u32, user: u32, buffer: u32, index: u32, word: u32, setpoints: &mut [u32]) -> Result<(), u8> {
-        self.setpoints_fit(setpoints).inspect_err(|_| self.tally.add(Did::setpoint_refused_1))?;
+    /// Refusals 2, 13. "Arming an armed channel changes nothing."
+    pub fn arm(&mut self, role: Role, c: u32) -> Result<(), u8> {
         let c = Board::channel(c)?;
-        if !(1..=8).contains(&user) || !(1..=2).contains(&buffer) || index >= self.n {
-            return Err(2);
-        }
-        let ch = &self.ch[c];
-        let live = ch.active_setpoint(user) == buffer - 1;
-        match (live, ch.armed) {
-            (true, true) => return Err(6),
-            (true, false) => self.tally.add(Did::setpoint_active_while_disarmed),
-            (false, true) => self.tally.add(Did::setpoint_inactive_while_armed),
-            (false, false) => {}
-        }
-        self.watch_left(c, Did::volts_kept_over_setpoint_write, Did::download_kept_over_setpoint_write);
-        setpoints[self.word_at(c, user, buffer - 1, index)] = word;
-        Ok(())
-    }
-
-    fn word_at(&self, c: usize, user: u32, second: u32, index: u32) -> usize {
-        (16 * c + 2 * (user as usize - 1) + second as usize) * self.n as usize + index as usize
-    }
-
-    /// Refusal 2. "Arming an armed channel changes nothing."
-    pub fn arm(&mut self, c: u32) -> Result<(), u8> {
-        let c = Board::channel(c)?;
+        self.may_write(role, c)?;
         if self.ch[c].armed {
             self.tally.add(Did::arm_armed);
             self.watch_tag_kept(c, Did::tag_kept_over_arm);
@@ -236,9 +228,10 @@ impl Board {
         Ok(())
     }
 
-    /// Refusal 2. "Disarm idles, without EE."
-    pub fn disarm(&mut self, c: u32) -> Result<(), u8> {
+    /// Refusals 2, 13. "Disarm idles, without EE."
+    pub fn disarm(&mut self, role: Role, c: u32) -> Result<(), u8> {
         let c = Board::channel(c)?;
+        self.may_write(role, c)?;
         self.tally.add(if self.ch[c].function.is_some() { Did::disarm_not_idle } else { Did::disarm_idle });
         let is_armed = self.ch[c].armed;
         self.drop_command(c, if is_armed { Did::command_dropped_by_disarm } else { Did::command_dropped_by_disarm_of_disarmed });
@@ -251,29 +244,29 @@ impl Board {
         Ok(())
     }
 
-    /// Refusal 1, of the whole tick. "A tick answers with each channel's frame or none."
-    pub fn tick(&mut self, setpoints: &[u32]) -> Result<[Option<u64>; 4], u8> {
+    /// Refusals 1, 13, of the whole tick. "A tick answers with each channel's frame or none." Those that the role is shown go
+    /// to `show`, with their channels (0–3). Request 9: "a frame that a tick doesn't show still counts as sent".
+    pub fn tick(&mut self, role: Role, setpoints: &[u32], mut show: impl FnMut(usize, u64)) -> Result<(), u8> {
         self.setpoints_fit(setpoints).inspect_err(|_| self.tally_tick_refused())?;
+        may_run(role)?;
         self.now += 1;
-        let mut frames = [None; 4];
         for c in 0..4 {
-            if self.ch[c].waiting.is_some() {
-                frames[c] = self.tick_command(c);
-            }
-            if self.ch[c].function.is_some() {
-                let setpoint = self.tick_channel(c, setpoints);
-                // never both: what is due leaves on the next tick; it became due on an idle channel, by D0 or Group
-                // End, and a Start since then sends 10 ticks later at the earliest
-                assert!(frames[c].is_none() || setpoint.is_none());
-                frames[c] = frames[c].or(setpoint);
+            let command = if self.ch[c].waiting.is_some() { self.tick_command(c) } else { None };
+            let setpoint = if self.ch[c].function.is_some() { self.tick_channel(c, setpoints) } else { None };
+            // never both: what is due leaves on the next tick; it became due on an idle channel, by D0 or Group End, and a
+            // Start since then sends 10 ticks later at the earliest
+            assert!(command.is_none() || setpoint.is_none());
+            if let Some(frame) = command.or(setpoint).filter(|_| self.shows(role, c)) {
+                show(c, frame);
             }
         }
-        Ok(frames)
+        Ok(())
     }
 
-    /// Refusal 1. "Event registers keep 9 bits: D8 active, D7–D0 code."
-    pub fn event(&mut self, code: u8, readbacks: &mut [u32]) -> Result<(), u8> {
+    /// Refusals 1, 13. "Event registers keep 9 bits: D8 active, D7–D0 code."
+    pub fn event(&mut self, role: Role, code: u8, readbacks: &mut [u32]) -> Result<(), u8> {
         self.readbacks_fit(readbacks).inspect_err(|_| self.tally_event_refused(code))?;
+        may_run(role)?;
         self.tally.add(Did::event_came);
         // "D3 an event came"
         self.main[0] |= 8;
@@ -291,8 +284,9 @@ impl Board {
         Ok(())
     }
 
-    /// Refusal 2. "A user change to another user idles every channel, with EE as above."
-    pub fn change_user(&mut self, user: u32) -> Result<(), u8> {
+    /// Refusals 13, 2. "A user change to another user idles every channel, with EE as above."
+    pub fn change_user(&mut self, role: Role, user: u32) -> Result<(), u8> {
+        may_examine(role)?;
         if !(1..=8).contains(&user) {
             (0..4).for_each(|c| self.watch_left(c, Did::volts_kept_over_refused_user, Did::download_kept_over_refused_user));
             return Err(2);
@@ -320,14 +314,15 @@ impl Board {
         Ok(())
     }
 
-    /// "The interrupt level is Level if some D7–D4 is set in both 28 and 26, else 0."
-    pub fn interrupt_level(&mut self) -> u16 {
+    /// Refusal 13. "The interrupt level is Level if some D7–D4 is set in both 28 and 26, else 0."
+    pub fn interrupt_level(&mut self, role: Role) -> Result<u16, u8> {
+        may_examine(role)?;
         let raised = self.main[0] & self.enable & 0xF0 != 0;
         if raised && self.level != 0 {
             self.tally.add(Did::level_not_zero);
         } else if self.main[0] & 0xF0 != 0 && self.level != 0 {
             self.tally.add(Did::level_zero_while_latched);
         }
-        if raised { self.level } else { 0 }
+        Ok(if raised { self.level } else { 0 })
     }
 }

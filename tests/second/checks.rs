@@ -1,14 +1,16 @@
-//! `selftest`: document 01's starred examples, and examples of document 02's requests 3 to 8, run on this program.
+//! `selftest`: document 01's starred examples, and examples of document 02's requests 3 to 9, run on this program.
 
 mod crc;
 mod download;
 mod end_word;
 mod ramp;
+mod roles;
 mod tag;
 mod volts;
 
-use crate::board::{Board, Reply};
+use crate::board::{Board, Reply, Setpoint};
 use crate::frame::{crc, frame};
+use crate::role::{Access, Role, Role::Examiner};
 use crate::{runfile, script};
 
 struct Small {
@@ -24,23 +26,32 @@ impl Small {
     }
     /// The same, of this depth M.
     fn of_depth(m: u32, words: &[u32]) -> Small {
+        Small::open_for(m, words, Access::NONE)
+    }
+    /// And with these permissions.
+    fn open_for(m: u32, words: &[u32], access: Access) -> Small {
         let (s, r) = (vec![0; 256], vec![0; 8 * m as usize]);
-        let mut t = Small { b: Board::open(4, m, s.len(), r.len()).0, s, r };
+        let mut t = Small { b: Board::open(4, m, s.len(), r.len(), access).0, s, r };
         for (i, &w) in words.iter().enumerate() {
-            t.b.set(1, 1, 1, i as u32, w, &mut t.s).unwrap();
+            t.b.set(Examiner, Setpoint { c: 1, user: 1, buffer: 1, index: i as u32, word: w }, &mut t.s).unwrap();
         }
         t.write(0x80A, 3);
-        t.b.arm(1).unwrap();
+        t.b.arm(Examiner, 1).unwrap();
         t
     }
     fn write(&mut self, address: u32, value: u16) {
-        self.b.write(address, value, &mut self.r).unwrap();
+        self.b.write(Examiner, address, value, &mut self.r).unwrap();
+    }
+    /// A tick: the frames that the role is shown.
+    fn tick(&mut self, role: Role) -> Result<[Option<u64>; 4], u8> {
+        let mut frames = [None; 4];
+        self.b.tick(role, &self.s, |c, frame| frames[c] = Some(frame)).map(|_| frames)
     }
     /// The ticks (counted on from `from`) on which channel 1 sends, with the data sent.
     fn sends(&mut self, from: u64, to: u64) -> Vec<(u64, u64)> {
         let mut seen = Vec::new();
         for t in from..=to {
-            if let Some(f) = self.b.tick(&self.s).unwrap()[0] {
+            if let Some(f) = self.tick(Examiner).unwrap()[0] {
                 seen.push((t, f >> 18 & 0xFFFF));
             }
         }
@@ -48,7 +59,7 @@ impl Small {
     }
     /// A reply of ID 15h.
     fn reply(&mut self, data: usize) -> Reply {
-        self.b.reply(1, frame(0x15, data as u16, 0), &mut self.r).unwrap()
+        self.b.reply(Examiner, 1, frame(0x15, data as u16, 0), &mut self.r).unwrap()
     }
     fn group_end(&mut self) {
         self.write(0x808, 4);
@@ -57,7 +68,7 @@ impl Small {
     fn part(&mut self) -> Vec<u32> {
         let m = self.b.m as usize;
         let (first, second) = (&self.r[..m], &self.r[m..2 * m]);
-        let (is_second, length) = self.b.retired(1, first, second).unwrap();
+        let (is_second, length) = self.b.retired(Examiner, 1, first, second).unwrap();
         (if is_second { second } else { first })[..length].to_vec()
     }
 }
@@ -65,7 +76,7 @@ impl Small {
 type Done = Vec<(&'static str, bool)>;
 
 pub fn all() -> Done {
-    let of_requests = [end_word::all(), ramp::all(), crc::all(), tag::all(), volts::all(), download::all()];
+    let of_requests = [end_word::all(), ramp::all(), crc::all(), tag::all(), volts::all(), download::all(), roles::all()];
     [frames(), starts(), resumes(), kept_words(), files(), of_requests.concat()].concat()
 }
 
@@ -78,8 +89,8 @@ fn frames() -> Done {
         ("CRC rows", (0..4).map(crc).eq([0x00, 0xB3, 0xD5, 0x66])),
         ("frames", (0..4).map(|a| frame(0, 0, a)).eq([3, 1743, 2903, 3483])),
         // "Frame 7 is well framed, CRC wrong. 2 and 2^42 + 3 refuse 7."
-        ("frame 7", t.b.reply(1, 7, &mut t.r) == Ok(Reply::Kept) && t.r[0] == 0xA100_0000),
-        ("2 and 2^42 + 3", [2, (1 << 42) + 3].iter().all(|&f| t.b.reply(1, f, &mut t.r) == Err(7))),
+        ("frame 7", t.b.reply(Examiner, 1, 7, &mut t.r) == Ok(Reply::Kept) && t.r[0] == 0xA100_0000),
+        ("2 and 2^42 + 3", [2, (1 << 42) + 3].iter().all(|&f| t.b.reply(Examiner, 1, f, &mut t.r) == Err(7))),
     ]
 }
 
@@ -90,7 +101,7 @@ fn starts() -> Done {
         t.write(0x820, 0x101);
         t.write(0x840, high);
         t.write(0x842, low);
-        t.b.event(1, &mut t.r).unwrap();
+        t.b.event(Examiner, 1, &mut t.r).unwrap();
         t
     };
     vec![
@@ -109,7 +120,7 @@ fn resumes() -> Done {
         t.write(0x862, delay);
         t.write(0x808, 1);
         t.sends(1, 10);
-        t.b.event(0xAA, &mut t.r).unwrap();
+        t.b.event(Examiner, 0xAA, &mut t.r).unwrap();
         let last = seen[seen.len() - 1].0;
         done.push(("resume row", t.sends(11, last) == seen));
     }
@@ -122,8 +133,8 @@ fn kept_words() -> Done {
     t.write(0x814, 0x15);
     t.write(0x808, 1);
     t.sends(1, 10);
-    let is_last = t.b.read(0x804) == Ok(0xC000);
-    t.b.reply(1, frame(0x15, 0x1234, 0), &mut t.r).unwrap();
+    let is_last = t.b.read(Examiner, 0x804) == Ok(0xC000);
+    t.b.reply(Examiner, 1, frame(0x15, 0x1234, 0), &mut t.r).unwrap();
     vec![("D31 with D16", is_last), ("A0151234h", t.r[0] == 0xA015_1234)]
 }
 

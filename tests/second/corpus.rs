@@ -16,6 +16,7 @@ mod entries;
 mod files;
 mod missing;
 mod ramp;
+mod roles;
 mod story;
 mod summary;
 mod tag;

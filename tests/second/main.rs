@@ -1,14 +1,14 @@
 //! The second program: the V233 bench written once more from documents 01, 000 and 02 alone, to
-//! be compared with the product. Of document 02 it has requests 1 to 8.
+//! be compared with the product. Of document 02 it has requests 1 to 9.
 //!
 //!   second run | trace | calls     reads standard input to its end, prints what the product's
 //!                                  program of that name prints
 //!   second gen DIR SEED COUNT      writes COUNT run files, COUNT call scripts, a script of ramps and one of voltages
-//!                                  for every tenth, one of downloads for every twentieth, and some that are the
-//!                                  same for any seed
+//!                                  for every tenth, one of downloads and one of roles for every twentieth, and some
+//!                                  that are the same for any seed
 //!   second answers DIR             writes this program's answers beside those files
 //!   second summary DIR             what the files of DIR reach
-//!   second selftest                document 01's starred examples, and examples of requests 3 to 8
+//!   second selftest                document 01's starred examples, and examples of requests 3 to 9
 
 mod answer;
 mod board;
@@ -18,6 +18,7 @@ mod corpus;
 mod frame;
 mod map;
 mod ramp;
+mod role;
 mod runfile;
 mod script;
 mod tally;

@@ -33,29 +33,33 @@ pub fn readable() -> Vec<u32> {
     (0..0x800).filter(|&o| matches!(rule(o), Some((true, _, _)))).collect()
 }
 
+/// And the writable ones.
+pub fn writable() -> Vec<u32> {
+    (0..0x800).filter(|&o| matches!(rule(o), Some((_, true, _)))).collect()
+}
+
+#[derive(Clone, Copy)]
 pub enum Place {
     Main(u32),
     Channel(usize, u32),
 }
 
-/// "Channel c starts at 0800h × c. [...] below 0800h is Main; 2800h and above is refused 3."
-/// Answers 3 and 4 for the way asked.
-pub fn place(address: u32, write: bool) -> Result<Place, u8> {
+/// Refusal 3. "Channel c starts at 0800h × c. [...] below 0800h is Main; 2800h and above is refused 3."
+pub fn place(address: u32) -> Result<Place, u8> {
     let (c, offset) = (address / 0x800, address % 0x800);
-    if c == 0 {
-        return match offset {
-            0x22 | 0x24 | 0x26 => Ok(Place::Main(offset)),
-            0x28 | 0x2A if write => Err(4),
-            0x28 | 0x2A => Ok(Place::Main(offset)),
-            _ => Err(3),
-        };
+    match c {
+        0 if (0x22..=0x2A).contains(&offset) && offset % 2 == 0 => Ok(Place::Main(offset)),
+        1..=4 if rule(offset).is_some() => Ok(Place::Channel(c as usize - 1, offset)),
+        _ => Err(3),
     }
-    if c > 4 {
-        return Err(3);
-    }
-    match rule(offset) {
-        None => Err(3),
-        Some((r, w, _)) if (write && !w) || (!write && !r) => Err(4),
-        Some(_) => Ok(Place::Channel(c as usize - 1, offset)),
-    }
+}
+
+/// Refusal 4: "write to a read-only register, or read of a write-only one".
+pub fn check_way(place: Place, is_write: bool) -> Result<(), u8> {
+    let is_right = match place {
+        // "Main Interrupt Status and 2A Main Polling Status (both read-only; the other three read and write)"
+        Place::Main(offset) => !is_write || offset < 0x28,
+        Place::Channel(_, offset) => rule(offset).is_some_and(|(read, write, _)| if is_write { write } else { read }),
+    };
+    if is_right { Ok(()) } else { Err(4) }
 }

@@ -1,7 +1,8 @@
 //! The run file of document 01: `run` and `trace`.
 
 use crate::answer::{answer, ticks, Answer};
-use crate::board::Board;
+use crate::board::{Board, Setpoint};
+use crate::role::{Access, Role::Examiner};
 use std::fmt::Write;
 
 const N: u32 = 16;
@@ -37,13 +38,13 @@ pub struct Bench {
 impl Bench {
     pub fn new() -> Bench {
         let (setpoints, readbacks) = (vec![0; 64 * N as usize], vec![0; 8 * M as usize]);
-        let (board, opened) = Board::open(N, M, setpoints.len(), readbacks.len());
+        let (board, opened) = Board::open(N, M, setpoints.len(), readbacks.len(), Access::NONE);
         assert_eq!(opened, Ok(()));
         Bench { board, setpoints, readbacks }
     }
 
     /// "A record: byte kind, byte channel, 16-bit a, 32-bit b, little-endian." 9 is judged on
-    /// the record alone, before all else.
+    /// the record alone, before all else. Document 02, request 9: "a run file's calls are the examiner's".
     pub fn step(&mut self, record: &[u8]) -> Answer {
         let (kind, channel) = (record[0], record[1] as u32);
         let a = u16::from_le_bytes([record[2], record[3]]) as u32;
@@ -62,19 +63,19 @@ impl Bench {
         }
         let (board, readbacks) = (&mut self.board, &mut self.readbacks);
         match kind {
-            1 => answer(board.write(a, b as u16, readbacks), |_| Answer::Ok),
-            2 => answer(board.read(a), Answer::Value),
+            1 => answer(board.write(Examiner, a, b as u16, readbacks), |_| Answer::Ok),
+            2 => answer(board.read(Examiner, a), Answer::Value),
             // "a = 32 × (user − 1) + 16 × (buffer − 1) + index"
             3 => {
-                let (user, buffer, index) = (a / 32 + 1, a / 16 % 2 + 1, a % 16);
-                answer(board.set(channel, user, buffer, index, b, &mut self.setpoints), |_| Answer::Ok)
+                let asked = Setpoint { c: channel, user: a / 32 + 1, buffer: a / 16 % 2 + 1, index: a % 16, word: b };
+                answer(board.set(Examiner, asked, &mut self.setpoints), |_| Answer::Ok)
             }
-            4 => answer(board.event(b as u8, readbacks), |_| Answer::Ok),
-            5 => ticks(board, &self.setpoints, b),
-            6 => answer(board.reply(channel, (a as u64) << 32 | b as u64, readbacks), Answer::Reply),
-            7 => answer(board.change_user(b), |_| Answer::Ok),
-            _ if b == 1 => answer(board.arm(channel), |_| Answer::Ok),
-            _ => answer(board.disarm(channel), |_| Answer::Ok),
+            4 => answer(board.event(Examiner, b as u8, readbacks), |_| Answer::Ok),
+            5 => ticks(board, Examiner, &self.setpoints, b),
+            6 => answer(board.reply(Examiner, channel, (a as u64) << 32 | b as u64, readbacks), Answer::Reply),
+            7 => answer(board.change_user(Examiner, b), |_| Answer::Ok),
+            _ if b == 1 => answer(board.arm(Examiner, channel), |_| Answer::Ok),
+            _ => answer(board.disarm(Examiner, channel), |_| Answer::Ok),
         }
     }
 }

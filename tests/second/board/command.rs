@@ -1,10 +1,12 @@
 //! Command frames between functions: document 02, request 1, whose quotations these are.
 
+use super::access::may_run;
 use super::life::Asked;
 use super::record::MANY;
 use super::Board;
 use crate::channel::{Channel, CommandAsked, Waiting, Window, COMMAND, CRC, PAIRS, REPLIED};
 use crate::frame::frame;
+use crate::role::Role;
 use crate::tally::Did;
 
 impl Board {
@@ -153,8 +155,8 @@ impl Board {
     }
 
     /// Before a record of ticks.
-    pub fn tally_ticks(&mut self, setpoints: &[u32], count: u32) {
-        if count == 0 || self.setpoints_fit(setpoints).is_err() {
+    pub fn tally_ticks(&mut self, role: Role, setpoints: &[u32], count: u32) {
+        if count == 0 || self.setpoints_fit(setpoints).and(may_run(role)).is_err() {
             return;
         }
         let due = self.ch.iter().filter(|ch| ch.waiting.is_some_and(|w| w.due.is_some())).count();

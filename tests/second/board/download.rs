@@ -9,6 +9,7 @@ mod refused;
 pub use self::reached::Downloads;
 use super::life::Asked;
 use super::Board;
+use crate::role::Role;
 
 /// What a portion is asked for, and by which of its two calls: the one that answers words, or the one beside it, which
 /// answers their number.
@@ -29,28 +30,31 @@ impl Portion {
 }
 
 impl Board {
-    /// Refusal 2. "Opening a download of a channel remembers the retired count and answers it." One that is open gives way
+    /// Refusals 2, 13. "Opening a download of a channel remembers the retired count and answers it." One that is open gives way
     /// to it.
-    pub fn open_download(&mut self, c: u32) -> Result<usize, u8> {
+    pub fn open_download(&mut self, role: Role, c: u32) -> Result<usize, u8> {
         let c = Board::channel(c).inspect_err(|_| self.tally_opening_refused(c))?;
+        self.may_read(role, c)?;
         let count = self.retired_count(c);
         self.tally_opening(c, count);
         self.ch[c].download = Some(count);
         Ok(count)
     }
 
-    /// Refusals 1, 2, 12, 2: "Portions give a first index and a length and return those words".
-    pub fn portion<'a>(&mut self, asked: Portion, lent: [&'a [u32]; 2]) -> Result<&'a [u32], u8> {
-        let told = self.find_portion(asked, lent);
+    /// Refusals 1, 2, 13, 12, 2: "Portions give a first index and a length and return those words".
+    pub fn portion<'a>(&mut self, role: Role, asked: Portion, lent: [&'a [u32]; 2]) -> Result<&'a [u32], u8> {
+        let told = self.find_portion(role, asked, lent);
         self.tally_portion(asked, lent, told);
         told
     }
 
     /// The answer alone, with nothing counted.
-    pub fn find_portion<'a>(&self, asked: Portion, lent: [&'a [u32]; 2]) -> Result<&'a [u32], u8> {
+    pub fn find_portion<'a>(&self, role: Role, asked: Portion, lent: [&'a [u32]; 2]) -> Result<&'a [u32], u8> {
         // "lent the channel's two buffers on the terms of a retired-readbacks call"
         self.two_fit(lent)?;
-        let ch = &self.ch[Board::channel(asked.c)?];
+        let c = Board::channel(asked.c)?;
+        self.may_read(role, c)?;
+        let ch = &self.ch[c];
         // "checked after the channel and before the range"
         let count = ch.download.ok_or(12)?;
         // "A portion whose end is past the count is refused 2."

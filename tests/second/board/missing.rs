@@ -257,7 +257,7 @@ impl Board {
     }
 
     /// A write to 0C is refused as one to a read-only register.
-    pub(super) fn tally_missing_written(&mut self, address: u32, refused: u8) {
-        self.tally_if(address % 0x800 == 0x0C && refused == 4, Did::missing_count_written);
+    pub(super) fn tally_missing_written(&mut self, address: u32) {
+        self.tally_if(address % 0x800 == 0x0C, Did::missing_count_written);
     }
 }

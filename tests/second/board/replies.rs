@@ -3,6 +3,7 @@
 use super::Board;
 use crate::channel::{Function, Sent, Window, CRC};
 use crate::frame::{badly_framed, crc};
+use crate::role::Role;
 use crate::tally::Did;
 
 #[derive(Clone, Copy, PartialEq, Debug)]
@@ -32,10 +33,11 @@ impl Board {
         }
     }
 
-    /// Refusals 1, 2, 7.
-    pub fn reply(&mut self, c: u32, reply: u64, readbacks: &mut [u32]) -> Result<Reply, u8> {
+    /// Refusals 1, 2, 13, 7.
+    pub fn reply(&mut self, role: Role, c: u32, reply: u64, readbacks: &mut [u32]) -> Result<Reply, u8> {
         self.readbacks_fit(readbacks).inspect_err(|_| self.tally_reply_refused(c, reply))?;
         let c = Board::channel(c)?;
+        self.may_write(role, c)?;
         if badly_framed(reply) {
             self.watch_volts_refused(c, Did::volts_after_reply_refused_7);
             return Err(7);
@@ -113,11 +115,12 @@ impl Board {
         Reply::Kept
     }
 
-    /// Refusals 1, 2: the length of the part, and whether it is of the second buffer.
+    /// Refusals 1, 2, 13: the length of the part, and whether it is of the second buffer.
     /// "the answer is the stored part of the inactive one itself, by count, without the end word"
-    pub fn retired(&mut self, c: u32, first: &[u32], second: &[u32]) -> Result<(bool, usize), u8> {
+    pub fn retired(&mut self, role: Role, c: u32, first: &[u32], second: &[u32]) -> Result<(bool, usize), u8> {
         self.two_fit([first, second]).inspect_err(|_| self.tally.add(Did::retired_refused_1))?;
         let c = Board::channel(c)?;
+        self.may_read(role, c)?;
         let is_second = self.ch[c].active_readback() == 0;
         let length = self.retired_count(c);
         let part = &(if is_second { second } else { first })[..length];

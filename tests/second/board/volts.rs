@@ -8,6 +8,7 @@ pub use self::kept::Idled;
 pub use self::reached::WatchedVolts;
 use super::Board;
 use crate::channel::Sent;
+use crate::role::Role;
 use crate::tally::Did;
 use crate::volts::{voltage, Reading};
 
@@ -23,10 +24,11 @@ impl Sent {
 }
 
 impl Board {
-    /// Refusal 2. "The call names a channel and describes its last setpoint send since idle; with none, all four are
+    /// Refusals 2, 13. "The call names a channel and describes its last setpoint send since idle; with none, all four are
     /// lost."
-    pub fn voltages(&mut self, c: u32) -> Result<[Reading; 4], u8> {
+    pub fn voltages(&mut self, role: Role, c: u32) -> Result<[Reading; 4], u8> {
         let c = Board::channel(c).inspect_err(|_| self.tally_voltages_refused(c))?;
+        self.may_read(role, c)?;
         let sent = self.ch[c].function.as_ref().and_then(|f| f.sent);
         let told = sent.map_or([Reading::Lost; 4], |sent| sent.readings);
         self.tally_voltages(c, told);

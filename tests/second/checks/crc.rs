@@ -4,6 +4,7 @@
 use super::{Done, Small};
 use crate::board::Reply;
 use crate::frame::{crc, REMAINDERS};
+use crate::role::Role::Examiner;
 
 /// Document 01: "x^8 + x^7 + x^5 + x^4 + x + 1"
 const POLYNOMIAL: u64 = 1 << 8 | 1 << 7 | 1 << 5 | 1 << 4 | 1 << 1 | 1;
@@ -87,7 +88,7 @@ fn sent() -> Done {
         t.write(0x814, id);
         let middle = (id as u32) << 24 | 0x12_3400;
         let wanted = (middle as u64) << 10 | (long_division(middle) as u64) << 2 | 0b11;
-        (0..10).find_map(|_| t.b.tick(&t.s).unwrap()[0]) == Some(wanted)
+        (0..10).find_map(|_| t.tick(Examiner).unwrap()[0]) == Some(wanted)
     };
     vec![("the setpoint frames of each Frame ID", (0..=255).all(is_right))]
 }
@@ -101,8 +102,8 @@ fn replied() -> Done {
         t.write(0x808, 1);
         t.sends(1, 10);
         let reply = (middle as u64) << 10 | (carried as u64) << 2 | 0b11;
-        let is_kept = t.b.reply(1, reply, &mut t.r) == Ok(Reply::Kept);
-        is_kept.then_some((t.r[0] >> 24 & 1 == 1, t.b.read(0x802).unwrap() & 4 != 0))
+        let is_kept = t.b.reply(Examiner, 1, reply, &mut t.r) == Ok(Reply::Kept);
+        is_kept.then_some((t.r[0] >> 24 & 1 == 1, t.b.read(Examiner, 0x802).unwrap() & 4 != 0))
     };
     let judged = |carried: u8| {
         let is_wrong = carried != long_division(middle);

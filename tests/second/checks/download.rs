@@ -6,6 +6,7 @@ mod open;
 
 use super::{Done, Small};
 use crate::board::Portion;
+use crate::role::Role::Examiner;
 
 const ONE: u32 = 0x8015_0001;
 const TWO: u32 = 0x8015_0002;
@@ -23,7 +24,7 @@ impl Small {
         self.group_end();
     }
     fn portion_of(&mut self, c: u32, first: u32, length: u32, lent: [&[u32]; 2]) -> Told {
-        let words = self.b.portion(Portion { c, first, length, is_length: false }, lent);
+        let words = self.b.portion(Examiner, Portion { c, first, length, is_length: false }, lent);
         words.map(|words| words.to_vec())
     }
     /// A portion of channel 1, lent its own buffers.
@@ -37,7 +38,7 @@ impl Small {
 fn three() -> Small {
     let mut t = Small::new(&[5, 6]);
     t.retire(&[1, 2, 3]);
-    t.b.open_download(1).unwrap();
+    t.b.open_download(Examiner, 1).unwrap();
     t
 }
 
@@ -48,24 +49,24 @@ pub fn all() -> Done {
 /// "Opening a download of a channel remembers the retired count and answers it."
 fn counts() -> Done {
     let mut t = Small::of_depth(4, &[5]);
-    let mut said = vec![t.b.open_download(1)];
+    let mut said = vec![t.b.open_download(Examiner, 1)];
     t.write(0x808, 1);
     t.sends(1, 10);
     t.reply(1);
-    said.push(t.b.open_download(1));
+    said.push(t.b.open_download(Examiner, 1));
     t.group_end();
-    said.push(t.b.open_download(1));
+    said.push(t.b.open_download(Examiner, 1));
     // request 3: a buffer of depth 4 takes three
     t.retire(&[1, 2, 3, 4, 5]);
-    said.extend([t.b.open_download(1), t.b.open_download(1), t.b.open_download(2)]);
+    said.extend([t.b.open_download(Examiner, 1), t.b.open_download(Examiner, 1), t.b.open_download(Examiner, 2)]);
     t.group_end();
-    said.push(t.b.open_download(1));
+    said.push(t.b.open_download(Examiner, 1));
     let mut depth_1 = Small::of_depth(1, &[5]);
     depth_1.retire(&[1, 2]);
     vec![
         ("counts of openings", said == [Ok(0), Ok(0), Ok(1), Ok(3), Ok(3), Ok(0), Ok(0)]),
-        ("no channel is opened", [0, 5, 9, 255].iter().all(|c| t.b.open_download(*c) == Err(2))),
-        ("M 1, nothing retires", depth_1.b.open_download(1) == Ok(0)),
+        ("no channel is opened", [0, 5, 9, 255].iter().all(|c| t.b.open_download(Examiner, *c) == Err(2))),
+        ("M 1, nothing retires", depth_1.b.open_download(Examiner, 1) == Ok(0)),
         ("M 1, length 0", depth_1.portion(0, 0) == Ok(vec![])),
         ("M 1, the end word is in no portion", depth_1.portion(0, 1) == Err(2)),
     ]
@@ -128,7 +129,7 @@ fn next_function() -> Done {
     let is_kept = t.r[7..10] == [0x8015_0007, 0x0015_0008, 0x0015_0009];
     t.group_end();
     let after = t.portion(0, 1);
-    let opened = t.b.open_download(1);
+    let opened = t.b.open_download(Examiner, 1);
     vec![
         ("portions while a function runs", said == [Ok(vec![ONE]), Ok(vec![TWO]), Ok(vec![THREE])]),
         ("the function runs", is_sent && is_kept),
@@ -143,7 +144,7 @@ fn buffers() -> Done {
     let (first, second) = ([10, 11, 12, 13, 14, 15, 16], [20, 21, 22, 23, 24, 25, 26]);
     let foreign = t.portion_of(1, 1, 2, [&first, &second]);
     t.retire(&[1, 2]);
-    let own = [t.b.open_download(1), t.b.open_download(2)];
+    let own = [t.b.open_download(Examiner, 1), t.b.open_download(Examiner, 2)];
     let of_second = t.portion_of(1, 0, 2, [&first, &second]);
     let of_channel_2 = t.portion_of(2, 0, 0, [&first, &second]);
     let is_retired_after = t.part() == [ONE, TWO] && t.r[9] == END_WORD;

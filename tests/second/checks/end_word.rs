@@ -2,6 +2,7 @@
 
 use super::{Done, Small};
 use crate::board::{Board, Reply};
+use crate::role::{Access, Role::Examiner};
 use crate::script;
 
 /// What stands in the lent readback words before a case.
@@ -155,7 +156,7 @@ fn missing() -> Done {
         let mut t = Small::started(1);
         t.group(replies);
         t.sends(1, 10);
-        t.b.read(0x80C).unwrap()
+        t.b.read(Examiner, 0x80C).unwrap()
     };
     vec![("six lost, none missing", count(6) == 0), ("five lost, one missing", count(5) == 1)]
 }
@@ -167,7 +168,7 @@ fn command() -> Done {
     t.write(0x8FC, 1);
     t.sends(1, 1);
     let is_kept = (0..6).all(|i| t.reply(i) == Reply::Kept);
-    let is_in_pairs = t.b.read(0x8FE) == Ok(6) && t.b.read(0x8FA) == Ok(5);
+    let is_in_pairs = t.b.read(Examiner, 0x8FE) == Ok(6) && t.b.read(Examiner, 0x8FA) == Ok(5);
     let is_unwritten = t.has(&[]);
     t.group_end();
     vec![
@@ -178,14 +179,14 @@ fn command() -> Done {
 
 /// A closed board is lent no word for the end word (CALLS.md).
 fn closed() -> Done {
-    let (mut b, opened) = Board::open(1, 0, 64, 0);
-    let ended = b.write(0x808, 4, &mut []);
+    let (mut b, opened) = Board::open(1, 0, 64, 0, Access::NONE);
+    let ended = b.write(Examiner, 0x808, 4, &mut []);
     let header = [1, 0, 0, 0];
     let mut group_end = [0; 16];
     (group_end[0], group_end[4], group_end[5], group_end[8]) = (1, 0x08, 0x08, 4);
     let told = script::tell(&[&header[..], &[0; 12], &group_end].concat()).text;
     vec![
-        ("Group End of a closed board", opened == Err(1) && ended == Ok(()) && b.read(0x80E) == Ok(0x100)),
+        ("Group End of a closed board", opened == Err(1) && ended == Ok(()) && b.read(Examiner, 0x80E) == Ok(0x100)),
         ("and in a script", told.starts_with("0 refused 1\n1 ok\nend ")),
     ]
 }

@@ -4,7 +4,8 @@
 
 use self::Act::{Arm, Command, Disarm, Event, Reply, Send, Ticks, User, Write, ZeroReply};
 use super::{Done, Small};
-use crate::board;
+use crate::board::{self, Setpoint};
+use crate::role::Role::Examiner;
 
 const FIRST: u32 = 1 << 31;
 const PAUSED: u32 = 1 << 30;
@@ -41,14 +42,14 @@ impl Small {
     fn act(&mut self, act: Act) {
         match act {
             Command(bits) => self.write(0x808, bits),
-            Event(code) => self.b.event(code, &mut self.r).unwrap(),
+            Event(code) => self.b.event(Examiner, code, &mut self.r).unwrap(),
             Write(address, value) => self.write(address, value),
-            Arm => self.b.arm(1).unwrap(),
-            Disarm => self.b.disarm(1).unwrap(),
-            User(user) => self.b.change_user(user).unwrap(),
+            Arm => self.b.arm(Examiner, 1).unwrap(),
+            Disarm => self.b.disarm(Examiner, 1).unwrap(),
+            User(user) => self.b.change_user(Examiner, user).unwrap(),
             Ticks(count) => drop(self.sends(1, count)),
             Reply => assert_eq!(self.reply(1), board::Reply::Kept),
-            ZeroReply => assert_eq!(self.b.reply(1, 3, &mut self.r), Ok(board::Reply::Kept)),
+            ZeroReply => assert_eq!(self.b.reply(Examiner, 1, 3, &mut self.r), Ok(board::Reply::Kept)),
             Send => self.acts(&[Ticks(10), Reply]),
         }
     }
@@ -87,12 +88,12 @@ pub fn all() -> Done {
 /// "Register 2C joins the map with D8 active, D7–D0 code."
 fn register() -> Done {
     let mut t = after(&[], &[Write(0x82C, 0xFFFF)]);
-    let is_cut = t.b.read(0x82C) == Ok(0x1FF);
+    let is_cut = t.b.read(Examiner, 0x82C) == Ok(0x1FF);
     t.act(Write(0x806, 1));
     vec![
         ("2C keeps 9 bits", is_cut),
-        ("a reset clears 2C", t.b.read(0x82C) == Ok(0)),
-        ("2D, 2E and Main 2C are no registers", [0x82D, 0x82E, 0x2C].iter().all(|&a| t.b.read(a) == Err(3))),
+        ("a reset clears 2C", t.b.read(Examiner, 0x82C) == Ok(0)),
+        ("2D, 2E and Main 2C are no registers", [0x82D, 0x82E, 0x2C].iter().all(|&a| t.b.read(Examiner, a) == Err(3))),
         ("the tag event", is_tagged(&[Event(0xAA)])),
         ("another event", !is_tagged(&[Event(0xAB)])),
         ("2C not active", !is_tagged(&[Write(0x82C, 0x2AA), Event(0xAA)])),
@@ -145,7 +146,7 @@ fn order() -> Done {
         // 000A1101h: D19 and D17, data 1101h; user 2 is D26
         ("Group End, Start and tag, another user's word", {
             let mut t = after(&[], &[User(2)]);
-            t.b.set(1, 2, 2, 0, 0x000A_1101, &mut t.s).unwrap();
+            t.b.set(Examiner, Setpoint { c: 1, user: 2, buffer: 2, index: 0, word: 0x000A_1101 }, &mut t.s).unwrap();
             t.acts(&[Write(0x832, 1), Command(GROUP_END | START | TAG), Send]);
             t.r[7] == FIRST | PAUSED | 1 << 26 | TAGGED | KEPT
         }),
@@ -192,7 +193,7 @@ fn replies() -> Done {
     let six = [&[Command(TAG), Command(START), Ticks(10)], &[Reply; 6][..]].concat();
     // document 01: "Frame 7 is well framed, CRC wrong."
     let mut wrong = after(&[1, 2, 3], &[Command(START | TAG), Ticks(10)]);
-    wrong.b.reply(1, 7, &mut wrong.r).unwrap();
+    wrong.b.reply(Examiner, 1, 7, &mut wrong.r).unwrap();
     // request 2: of six replies one came
     let mut short = after(&[1, 2, 3], &[Write(0x814, 0x15), Command(START | TAG), Send, Ticks(10)]);
     vec![
@@ -200,7 +201,7 @@ fn replies() -> Done {
         ("a reply in a new start delay", kept(&[1, 2, 3], &restarted) == [FIRST | TAGGED | KEPT, FIRST | KEPT]),
         ("six tagged replies", kept(&[1, 2, 3], &six) == [FIRST | TAGGED | KEPT; 6]),
         ("a tagged reply with a wrong CRC", wrong.r[0] == 0x8300_0000),
-        ("a tagged send with a shortfall", short.b.read(0x80C) == Ok(5)),
+        ("a tagged send with a shortfall", short.b.read(Examiner, 0x80C) == Ok(5)),
     ]
 }
 
@@ -213,7 +214,7 @@ fn commands() -> Done {
     vec![
         ("a command frame by D0 uses no tag", is_tagged(&by_d0)),
         ("a command frame by D1 uses no tag", is_tagged(&by_d1)),
-        ("replies to it are not tagged", [t.b.read(0x8E4), t.b.read(0x8E6)] == [Ok(0x15), Ok(1)]),
+        ("replies to it are not tagged", [t.b.read(Examiner, 0x8E4), t.b.read(Examiner, 0x8E6)] == [Ok(0x15), Ok(1)]),
     ]
 }
 
@@ -221,11 +222,11 @@ fn commands() -> Done {
 fn channels() -> Done {
     let words = |code: u16| {
         let mut t = Small::new(&[0x8000_0005]);
-        t.b.set(2, 1, 1, 0, 0x8000_0005, &mut t.s).unwrap();
-        t.b.arm(2).unwrap();
+        t.b.set(Examiner, Setpoint { c: 2, user: 1, buffer: 1, index: 0, word: 0x8000_0005 }, &mut t.s).unwrap();
+        t.b.arm(Examiner, 2).unwrap();
         t.acts(&[Write(0x82C, 0x1AA), Write(0x102C, code), Event(0xAA)]);
         t.acts(&[Command(START), Write(0x1008, START), Ticks(10), ZeroReply]);
-        t.b.reply(2, 3, &mut t.r).unwrap();
+        t.b.reply(Examiner, 2, 3, &mut t.r).unwrap();
         // channel 2 has the words from 2 × M on
         [t.r[0], t.r[14]]
     };

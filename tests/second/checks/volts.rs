@@ -7,6 +7,7 @@ use super::{Done, Small};
 use crate::answer::Answer;
 use crate::board::Board;
 use crate::frame::frame;
+use crate::role::{Access, Role::Examiner};
 use crate::volts::{voltage, Reading};
 
 const LOST: &str = "volts lost lost lost lost";
@@ -26,11 +27,11 @@ impl Small {
     }
     /// A reply with a wrong CRC.
     fn wrong(&mut self, data: u16) {
-        self.b.reply(1, frame(0x15, data, 0) ^ 4, &mut self.r).unwrap();
+        self.b.reply(Examiner, 1, frame(0x15, data, 0) ^ 4, &mut self.r).unwrap();
     }
     /// What a voltages call answers.
     fn told(&mut self) -> String {
-        self.b.voltages(1).map_or_else(Answer::Refused, Answer::Volts).to_string()
+        self.b.voltages(Examiner, 1).map_or_else(Answer::Refused, Answer::Volts).to_string()
     }
 }
 
@@ -148,7 +149,7 @@ fn idled() -> Done {
         acts(&mut t);
         let idle = t.told();
         t.write(0x80A, 3);
-        t.b.arm(1).unwrap();
+        t.b.arm(Examiner, 1).unwrap();
         t.write(0x808, 1);
         [before, idle, t.told()] == [SIX, LOST, LOST]
     };
@@ -157,14 +158,14 @@ fn idled() -> Done {
         ("Group End by command", after(|t| t.write(0x808, 4))),
         ("Group End by event", after(|t| {
             t.write(0x82A, 0x1EE);
-            t.b.event(0xEE, &mut t.r).unwrap();
+            t.b.event(Examiner, 0xEE, &mut t.r).unwrap();
         })),
         ("Group End and Start", after(|t| t.write(0x808, 5))),
-        ("disarm", after(|t| t.b.disarm(1).unwrap())),
-        ("a user change", after(|t| t.b.change_user(2).unwrap())),
+        ("disarm", after(|t| t.b.disarm(Examiner, 1).unwrap())),
+        ("a user change", after(|t| t.b.change_user(Examiner, 2).unwrap())),
         ("a user change and back", after(|t| {
-            t.b.change_user(2).unwrap();
-            t.b.change_user(1).unwrap();
+            t.b.change_user(Examiner, 2).unwrap();
+            t.b.change_user(Examiner, 1).unwrap();
         })),
         ("reset", after(|t| t.write(0x806, 1))),
     ]
@@ -181,16 +182,16 @@ fn left() -> Done {
         ("asked again", after(|t| drop(t.told()))),
         ("the seventh reply", after(|t| t.replies(&[7]))),
         ("the seventh reply with a wrong CRC", after(|t| t.wrong(6))),
-        ("the same user", after(|t| t.b.change_user(1).unwrap())),
-        ("a user that there is not", after(|t| _ = t.b.change_user(9))),
-        ("arming again", after(|t| t.b.arm(1).unwrap())),
+        ("the same user", after(|t| t.b.change_user(Examiner, 1).unwrap())),
+        ("a user that there is not", after(|t| _ = t.b.change_user(Examiner, 9))),
+        ("arming again", after(|t| t.b.arm(Examiner, 1).unwrap())),
         ("a tag", after(|t| t.write(0x808, 8))),
         ("Resume", after(|t| t.write(0x808, 2))),
         ("a command frame that waits", after(|t| t.write(0x8FC, 2))),
-        ("a refused Group End", after(|t| _ = t.b.write(0x808, 4, &mut []))),
+        ("a refused Group End", after(|t| _ = t.b.write(Examiner, 0x808, 4, &mut []))),
         ("Reset without D0", after(|t| t.write(0x806, 2))),
-        ("a read of 02", after(|t| _ = t.b.read(0x802))),
-        ("a read of 0C", after(|t| _ = t.b.read(0x80C))),
+        ("a read of 02", after(|t| _ = t.b.read(Examiner, 0x802))),
+        ("a read of 0C", after(|t| _ = t.b.read(Examiner, 0x80C))),
         ("a retired call", after(|t| drop(t.part()))),
     ]
 }
@@ -200,7 +201,7 @@ fn no_place() -> Done {
     let mut refused = Small::of_depth(64, &[5]);
     refused.send();
     refused.replies(&[1, 2]);
-    let bad = [refused.b.reply(1, 2, &mut refused.r), refused.b.reply(1, frame(0x15, 9, 0), &mut [])];
+    let bad = [refused.b.reply(Examiner, 1, 2, &mut refused.r), refused.b.reply(Examiner, 1, frame(0x15, 9, 0), &mut [])];
     refused.replies(&[3]);
     let mut unasked = Small::of_depth(64, &[5]);
     unasked.replies(&[7, 7, 7]);
@@ -229,21 +230,22 @@ fn no_place() -> Done {
 /// "The call names a channel".
 fn channels() -> Done {
     let mut t = six(&[5]);
-    let told = |t: &mut Small, c: u32| t.b.voltages(c).map_or_else(Answer::Refused, Answer::Volts).to_string();
+    let told = |t: &mut Small, c: u32| t.b.voltages(Examiner, c).map_or_else(Answer::Refused, Answer::Volts).to_string();
     let before = [told(&mut t, 1), told(&mut t, 2)];
-    t.b.arm(2).unwrap();
+    t.b.arm(Examiner, 2).unwrap();
     t.write(0x100A, 3);
     t.write(0x1008, 1);
     t.sends(1, 9);
-    t.b.tick(&t.s).unwrap();
+    t.tick(Examiner).unwrap();
     for data in [0, 0, 0x8000] {
-        t.b.reply(2, frame(0, data, 0), &mut t.r).unwrap();
+        t.b.reply(Examiner, 2, frame(0, data, 0), &mut t.r).unwrap();
     }
-    let (mut closed, opened) = Board::open(0, 0, 0, 0);
+    let (mut closed, opened) = Board::open(0, 0, 0, 0, Access::NONE);
     vec![
         ("channel 2, with no send", before == [SIX, LOST]),
         ("channel 2", told(&mut t, 2) == "volts -327680 lost lost lost"),
-        ("no channel", [0, 5, 255].iter().all(|&c| t.b.voltages(c) == Err(2))),
-        ("a closed board", opened == Err(1) && closed.voltages(4) == Ok([Reading::Lost; 4]) && closed.voltages(5) == Err(2)),
+        ("no channel", [0, 5, 255].iter().all(|&c| t.b.voltages(Examiner, c) == Err(2))),
+        ("a closed board", opened == Err(1) && closed.voltages(Examiner, 4) == Ok([Reading::Lost; 4])),
+        ("no channel of it", closed.voltages(Examiner, 5) == Err(2)),
     ]
 }

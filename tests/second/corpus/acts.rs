@@ -5,11 +5,13 @@ use super::dice::Dice;
 use super::download::{download, glance};
 use super::end_word::{end_word, fill};
 use super::missing::missing;
+use super::roles::role;
 use super::story::{delay, load, reply, ticks, word, Taste, BASE};
 use super::tag::tag;
 use super::volts::{ask, volts};
-use super::world::{Op, World};
+use super::world::{lent_two, Op, World};
 use crate::board::Peek;
+use crate::role::Role::Examiner;
 
 /// What an act is made with: the dice, the story's taste, and a channel as it is.
 pub struct Scene<'a> {
@@ -41,14 +43,8 @@ pub fn act(world: &mut World, d: &Dice, t: &Taste) {
     }
     let c = d.of(&t.channels);
     let s = Scene { d, t, c, p: world.board().peek(c as usize - 1), user: world.board().user };
-    if d.chance(t.tags) {
-        return tag(world, &s);
-    }
-    if world.is_script() && d.chance(t.volts) {
-        return volts(world, &s);
-    }
-    if world.is_script() && d.chance(t.downloads) {
-        return download(world, &s);
+    if of_taste(world, &s) {
+        return;
     }
     match choice(&s) {
         0 => world.put(if d.chance(93) { Op::Arm(c) } else { Op::Disarm(c) }, d),
@@ -73,6 +69,20 @@ pub fn act(world: &mut World, d: &Dice, t: &Taste) {
     }
 }
 
+/// An act around what the taste has in percent, if it is so drawn. All but tags are of scripts alone.
+fn of_taste(world: &mut World, s: &Scene) -> bool {
+    let (t, is_script) = (s.t, world.is_script());
+    let acts: [(u32, bool, fn(&mut World, &Scene)); 4] =
+        [(t.tags, true, tag), (t.volts, is_script, volts), (t.downloads, is_script, download), (t.roles, is_script, role)];
+    for (percent, is_open, act) in acts {
+        if is_open && s.d.chance(percent) {
+            act(world, s);
+            return true;
+        }
+    }
+    false
+}
+
 /// By what suits the channel's state.
 fn choice(s: &Scene) -> usize {
     let (d, p) = (s.d, &s.p);
@@ -90,7 +100,7 @@ fn choice(s: &Scene) -> usize {
 /// A code that the named event register of the channel answers to, if it is in the taste.
 pub fn event_for(world: &World, s: &Scene, offset: u32) -> Op {
     let mut board = world.board().clone();
-    match board.read(s.at() + offset) {
+    match board.read(Examiner, s.at() + offset) {
         Ok(v) if v & 0x100 != 0 => Op::Event(v as u8),
         _ if s.d.chance(50) => Op::Write(s.at() + offset, 0x100 | s.d.of(&s.t.codes) as u16),
         _ => Op::Event(s.d.of(&s.t.codes)),
@@ -135,7 +145,7 @@ fn group_end(world: &mut World, s: &Scene) {
 
 pub fn retired(world: &mut World, s: &Scene) {
     let c = if s.d.chance(90) { s.c } else { s.d.of(&[0, 1, 2, 3, 4, 5, 255]) };
-    let lent = if s.d.chance(55) { 0 } else { s.d.below(9) as u8 };
+    let lent = if s.d.chance(55) { 0 } else { lent_two(s.d) };
     world.put(Op::Retired { c, length: true, lent }, s.d);
     world.put(Op::Retired { c, length: false, lent }, s.d);
 }

@@ -9,7 +9,7 @@ use super::commands::group_end;
 use super::dice::Dice;
 use super::end_word::{size, store};
 use super::story::{story_of_downloads, DEPTHS_N};
-use super::world::{Op, World};
+use super::world::{lent_two, Op, World};
 
 /// Numbers of no channel, some with the low bits of one.
 const NO_CHANNEL: &[u32] = &[0, 0, 5, 5, 255, 255, 6, 9, 132];
@@ -117,7 +117,7 @@ pub fn within(world: &mut World, s: &Scene, count: u32) {
 fn of_no_channel(world: &mut World, s: &Scene, count: u32) {
     let (first, length) = some(s.d, count);
     let c = if s.d.chance(50) { s.d.of(NO_CHANNEL) } else { s.c + 8 * (1 + s.d.below(31)) };
-    both(world, s, c, first, length, if s.d.chance(80) { 0 } else { s.d.below(9) as u8 });
+    both(world, s, c, first, length, if s.d.chance(80) { 0 } else { lent_two(s.d) });
 }
 
 /// Any portion, of this channel, another or none, with any lent code.
@@ -128,7 +128,7 @@ pub fn portion(world: &mut World, s: &Scene, count: u32) {
     }
     let (first, length) = range(d, count, world.board().m);
     let c = if d.chance(95) { s.c } else { 1 + (s.c + d.below(3)) % 4 };
-    let lent = if d.chance(55) { 0 } else { d.below(9) as u8 };
+    let lent = if d.chance(55) { 0 } else { lent_two(d) };
     both(world, s, c, first, length, lent);
     if d.chance(10) {
         both(world, s, c, first, length, 0);

@@ -4,6 +4,7 @@ use super::crc::every_entry;
 use super::dice::Dice;
 use super::download::download_script;
 use super::ramp::ramp_script;
+use super::roles::{register_script, role_script, sweep_scripts};
 use super::story::{story, story_of_tags, BASE, DEPTHS_M, DEPTHS_N};
 use super::volts::volts_script;
 use super::world::{run_record, Op, World};
@@ -175,7 +176,11 @@ pub fn generate(dir: &Path, seed: u64, count: u32) -> std::io::Result<()> {
     fs::write(dir.join("count.run"), high_count())?;
     fs::write(dir.join("crc.run"), file(&Dice::new(0), &every_entry(World::run()), None))?;
     let header = [1, 64, 0, 0].map(u32::to_le_bytes).concat();
-    fs::write(dir.join("crc.calls"), every_entry(World::script(header, 0)))?;
+    fs::write(dir.join("crc.calls"), every_entry(World::script_of_examiner(header)))?;
+    fs::write(dir.join("registers.calls"), register_script())?;
+    for (name, script) in sweep_scripts() {
+        fs::write(dir.join(format!("{name}.calls")), script)?;
+    }
     for quarter in 0..4 {
         fs::write(dir.join(format!("map-{quarter}.run")), whole_map(quarter))?;
     }
@@ -193,6 +198,8 @@ pub fn generate(dir: &Path, seed: u64, count: u32) -> std::io::Result<()> {
         if i % 20 == 0 {
             let d = Dice::new(seed ^ (i as u64) << 32 ^ 0x44);
             fs::write(dir.join(format!("download-{i:04}.calls")), download_script(&d, i / 20))?;
+            let d = Dice::new(seed ^ (i as u64) << 32 ^ 0x53);
+            fs::write(dir.join(format!("roles-{i:04}.calls")), role_script(&d, i / 20))?;
         }
     }
     Ok(())

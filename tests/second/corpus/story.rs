@@ -33,6 +33,8 @@ pub struct Taste {
     pub volts: u32,
     /// Acts around downloads, in percent.
     pub downloads: u32,
+    /// Acts around roles, in percent.
+    pub roles: u32,
 }
 
 impl Taste {
@@ -57,6 +59,7 @@ impl Taste {
             tags: d.of(&[0, 3, 6]),
             volts: 3,
             downloads: 2,
+            roles: 1,
         }
     }
 
@@ -75,6 +78,11 @@ impl Taste {
     /// Little but downloads, the same way.
     fn of_downloads(d: &Dice) -> Taste {
         Taste { volts: 0, downloads: 85, ..Taste::of_volts(d) }
+    }
+
+    /// Acts around roles, and about as many of all other kinds.
+    fn of_roles(d: &Dice) -> Taste {
+        Taste { tags: 10, volts: 10, downloads: 10, roles: 40, ..Taste::of_volts(d) }
     }
 }
 
@@ -190,6 +198,10 @@ pub fn story_of_volts(world: &mut World, d: &Dice, acts: u32) {
 
 pub fn story_of_downloads(world: &mut World, d: &Dice, acts: u32) {
     story_of(world, d, &Taste::of_downloads(d), acts);
+}
+
+pub fn story_of_roles(world: &mut World, d: &Dice, acts: u32) {
+    story_of(world, d, &Taste::of_roles(d), acts);
 }
 
 fn story_of(world: &mut World, d: &Dice, t: &Taste, acts: u32) {

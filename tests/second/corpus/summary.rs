@@ -2,6 +2,8 @@
 
 use super::entries::Entries;
 use crate::answer::Answer;
+use crate::map::{readable, writable};
+use crate::script::roles::{wanted, Counts, Registers, Roles};
 use crate::tally::{Tally, DID};
 use crate::{runfile, script};
 use std::fs;
@@ -42,18 +44,29 @@ struct Reach {
     /// Files with a frame.
     sending: u64,
     /// By number.
-    refused: [u64; 13],
+    refused: [u64; 14],
     did: Tally,
+    roles: Counts,
+    registers: Registers,
     /// Of the list of remainders, by frames without auxiliary bits and with them.
     entries: [Entries; 2],
 }
 
 impl Reach {
     fn new() -> Reach {
-        let entries = [Entries::new(), Entries::new()];
-        Reach { files: 0, answers: 0, frames: 0, sending: 0, refused: [0; 13], did: Tally::new(), entries }
+        Reach {
+            files: 0,
+            answers: 0,
+            frames: 0,
+            sending: 0,
+            refused: [0; 14],
+            did: Tally::new(),
+            roles: Counts::new(),
+            registers: Registers::default(),
+            entries: [Entries::new(), Entries::new()],
+        }
     }
-    fn add(&mut self, answers: &[Answer], did: Option<&Tally>) {
+    fn add(&mut self, answers: &[Answer]) {
         self.files += 1;
         self.answers += answers.len() as u64;
         let before = self.frames;
@@ -68,9 +81,11 @@ impl Reach {
             }
         }
         self.sending += (self.frames > before) as u64;
-        if let Some(did) = did {
-            self.did.join(did);
-        }
+    }
+    /// What a script reaches of roles.
+    fn add_roles(&mut self, roles: &Roles) {
+        roles.counts.iter().for_each(|(row, count)| *self.roles.entry(*row).or_default() += count);
+        self.registers.join(&roles.registers);
     }
     /// A frame of these 32 middle bits.
     fn look_up(&mut self, middle: u32) {
@@ -79,13 +94,13 @@ impl Reach {
     }
 }
 
-/// Prints the refusals, and answers those that are not reached: no run file is lent wrong lengths or asks for a ramp or a
-/// download, and a script has no trailer and no range of a record's numbers.
+/// Prints the refusals, and answers those that are not reached: no run file is lent wrong lengths, asks for a ramp or a
+/// download, or names a role, and a script has no trailer and no range of a record's numbers.
 fn refusals(runs: &Reach, calls: &Reach) -> Vec<String> {
     let mut missing = Vec::new();
-    for n in 1..=12 {
+    for n in 1..=13 {
         println!("refused {n}: {} in run files, {} in scripts", runs.refused[n], calls.refused[n]);
-        let (is_of_runs, is_of_scripts) = (![1, 11, 12].contains(&n), n != 8 && n != 9);
+        let (is_of_runs, is_of_scripts) = (![1, 11, 12, 13].contains(&n), n != 8 && n != 9);
         if (is_of_runs && runs.refused[n] == 0) || (is_of_scripts && calls.refused[n] == 0) {
             missing.push(format!("refused {n}"));
         }
@@ -144,6 +159,35 @@ fn remainders(runs: &Reach, calls: &Reach) -> Vec<String> {
     missing
 }
 
+/// Prints what scripts reach of roles, and answers what they do not.
+fn roles(calls: &Reach) -> Vec<String> {
+    let mut missing = Vec::new();
+    for row in wanted() {
+        let count = calls.roles.get(&row).copied().unwrap_or(0);
+        println!("roles {row:X?} {count} in scripts");
+        if count == 0 {
+            missing.push(format!("roles {row:X?}"));
+        }
+    }
+    let Registers { read, written, not_read, not_written } = &calls.registers;
+    let (all_read, all_written) = (readable(), writable());
+    // "reading 02, 04 or 0C needs both": none of them is read with the read permission alone
+    let read_alone: Vec<u32> = all_read.iter().copied().filter(|offset| ![0x02, 0x04, 0x0C].contains(offset)).collect();
+    for (name, reached, all) in [
+        ("read with that permission alone", read, read_alone),
+        ("written with that permission alone", written, all_written.clone()),
+        ("not read with all permissions but that", not_read, all_read),
+        ("not written with all permissions but that", not_written, all_written),
+    ] {
+        let count = all.iter().filter(|offset| reached.contains(offset)).count();
+        println!("registers {name}: {count} of {}", all.len());
+        if count < all.len() {
+            missing.push(format!("registers {name}"));
+        }
+    }
+    missing
+}
+
 /// What the files of a directory reach; false if something is not reached at all.
 pub fn summary(dir: &Path) -> std::io::Result<bool> {
     let (mut runs, mut calls) = (Reach::new(), Reach::new());
@@ -151,11 +195,16 @@ pub fn summary(dir: &Path) -> std::io::Result<bool> {
         match ending(&path) {
             "run" => {
                 let told = runfile::tell(&fs::read(&path)?);
-                runs.add(&told.answers, Some(&told.bench.board.tally));
+                runs.add(&told.answers);
+                runs.did.join(&told.bench.board.tally);
             }
             "calls" => {
                 let told = script::tell(&fs::read(&path)?);
-                calls.add(&told.answers, told.bench.as_ref().map(|b| &b.board.tally));
+                calls.add(&told.answers);
+                if let Some((bench, roles)) = told.end {
+                    calls.did.join(&bench.board.tally);
+                    calls.add_roles(&roles);
+                }
             }
             _ => {}
         }
@@ -164,6 +213,7 @@ pub fn summary(dir: &Path) -> std::io::Result<bool> {
     println!("{} run files, {} call scripts, {answers} answers, {frames} frames in {sending} of the files", runs.files, calls.files);
     let mut missing = refusals(&runs, &calls);
     missing.extend(done(&runs, &calls));
+    missing.extend(roles(&calls));
     missing.extend(remainders(&runs, &calls));
     if !missing.is_empty() {
         println!("not reached: {}", missing.join(", "));

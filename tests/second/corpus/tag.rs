@@ -9,6 +9,7 @@ use super::commands::group_end;
 use super::missing::send;
 use super::story::{delay, reply, BASE};
 use super::world::{Op, World};
+use crate::role::Role::Examiner;
 
 /// Tags, and the sends that use them or would.
 pub fn tag(world: &mut World, s: &Scene) {
@@ -69,7 +70,7 @@ fn ask(world: &mut World, s: &Scene) {
 
 /// The code in an event register, active or not.
 fn same_code(world: &World, s: &Scene, offset: u32) -> u8 {
-    world.board().clone().read(s.at() + offset).unwrap_or(0) as u8
+    world.board().clone().read(Examiner, s.at() + offset).unwrap_or(0) as u8
 }
 
 /// The channel brought into a state, or left in the one that it is in.

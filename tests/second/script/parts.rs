@@ -3,6 +3,7 @@
 use super::Bench;
 use crate::answer::{answer, Answer};
 use crate::board::Portion;
+use crate::role::Role;
 use crate::tally::Did;
 
 impl Bench {
@@ -25,11 +26,11 @@ impl Bench {
         }
     }
 
-    pub(super) fn retired(&mut self, c: u32, code: u8, is_length: bool) -> Answer {
+    pub(super) fn retired(&mut self, role: Role, c: u32, code: u8, is_length: bool) -> Answer {
         let two = self.two(c, code);
         let readbacks = &self.readbacks;
         let [first, second] = two.map(|(from, len)| &readbacks[from..from + len]);
-        let told = self.board.retired(c, first, second);
+        let told = self.board.retired(role, c, first, second);
         if is_length {
             return answer(told, |(_, length)| Answer::Length(length));
         }
@@ -40,18 +41,18 @@ impl Bench {
         Answer::Part(part.to_vec())
     }
 
-    pub(super) fn portion(&mut self, asked: Portion, code: u8) -> Answer {
+    pub(super) fn portion(&mut self, role: Role, asked: Portion, code: u8) -> Answer {
         let [lent, own] = [code, 0].map(|code| self.two(asked.c, code));
         let readbacks = &self.readbacks;
         let [lent, own] = [lent, own].map(|two| two.map(|(from, len)| &readbacks[from..from + len]));
-        let told = self.board.portion(asked, lent);
+        let told = self.board.portion(role, asked, lent);
         if asked.is_length {
             return answer(told, |words| Answer::Length(words.len()));
         }
         // "gives the empty part when refused"
         let Ok(words) = told else { return Answer::Part(Vec::new()) };
         // the channel's own buffers have others there
-        if self.board.find_portion(asked, own) != Ok(words) {
+        if self.board.find_portion(role, asked, own) != Ok(words) {
             let swapped = code == 5;
             self.board.tally.add(if swapped { Did::download_words_swapped } else { Did::download_words_of_next_channel });
         }

@@ -33,6 +33,7 @@ impl Board {
         match (Board::channel(asked.c), told) {
             (_, Err(1)) => self.tally_portion_misfit(asked, lent),
             (Err(_), _) => self.tally_portion_of_no_channel(asked),
+            (Ok(_), Err(13)) => {}
             (Ok(c), Err(12)) => self.tally_none_open(c, asked),
             (Ok(c), Err(_)) => self.tally_portion_past_count(c, asked),
             (Ok(c), Ok(words)) => self.tally_answered(c, asked, lent, words),

@@ -4,6 +4,7 @@ use super::{three, ONE, THREE, TWO};
 use crate::board::Board;
 use crate::checks::{Done, Small};
 use crate::frame::frame;
+use crate::role::{Access, Role::Examiner};
 
 pub fn all() -> Done {
     [ended(), left(), none_open(), order(), boards(), channel_4()].concat()
@@ -22,11 +23,11 @@ fn ended() -> Done {
         ("Group End by command ends it", after(|t| t.write(0x808, 4))),
         ("Group End by event ends it", after(|t| {
             t.write(0x82A, 0x1EE);
-            t.b.event(0xEE, &mut t.r).unwrap();
+            t.b.event(Examiner, 0xEE, &mut t.r).unwrap();
         })),
         ("Group End and Start end it", after(|t| t.write(0x808, 5))),
         ("Group End of a disarmed channel ends it", after(|t| {
-            t.b.disarm(1).unwrap();
+            t.b.disarm(Examiner, 1).unwrap();
             t.group_end();
         })),
         ("two Group Ends end it", after(|t| {
@@ -53,19 +54,19 @@ fn left() -> Done {
         ("another channel's Group End by command", after(|t| t.write(0x1008, 4))),
         ("another channel's Group End by event", after(|t| {
             t.write(0x202A, 0x1EE);
-            t.b.event(0xEE, &mut t.r).unwrap();
+            t.b.event(Examiner, 0xEE, &mut t.r).unwrap();
         })),
         ("another channel's reset", after(|t| t.write(0x1006, 1))),
-        ("another channel's download", after(|t| _ = t.b.open_download(2))),
-        ("no channel's download", after(|t| _ = t.b.open_download(9))),
-        ("opening again", after(|t| _ = t.b.open_download(1))),
-        ("a refused Group End", after(|t| _ = t.b.write(0x808, 4, &mut []))),
-        ("a refused reset", after(|t| _ = t.b.write(0x806, 1, &mut []))),
+        ("another channel's download", after(|t| _ = t.b.open_download(Examiner, 2))),
+        ("no channel's download", after(|t| _ = t.b.open_download(Examiner, 9))),
+        ("opening again", after(|t| _ = t.b.open_download(Examiner, 1))),
+        ("a refused Group End", after(|t| _ = t.b.write(Examiner, 0x808, 4, &mut []))),
+        ("a refused reset", after(|t| _ = t.b.write(Examiner, 0x806, 1, &mut []))),
         ("reset without D0", after(|t| t.write(0x806, 2))),
-        ("an event of no meaning", after(|t| t.b.event(0xEE, &mut t.r).unwrap())),
-        ("disarm", after(|t| t.b.disarm(1).unwrap())),
-        ("arming again", after(|t| t.b.arm(1).unwrap())),
-        ("a user change", after(|t| t.b.change_user(2).unwrap())),
+        ("an event of no meaning", after(|t| t.b.event(Examiner, 0xEE, &mut t.r).unwrap())),
+        ("disarm", after(|t| t.b.disarm(Examiner, 1).unwrap())),
+        ("arming again", after(|t| t.b.arm(Examiner, 1).unwrap())),
+        ("a user change", after(|t| t.b.change_user(Examiner, 2).unwrap())),
         ("a command frame and its reply", after(|t| {
             t.write(0x8FC, 1);
             t.sends(1, 1);
@@ -83,7 +84,7 @@ fn none_open() -> Done {
     let at_first = [t.portion(0, 0), t.portion(0, 1)];
     t.retire(&[1, 2, 3]);
     let retired = [t.portion(0, 0), t.portion(0, 3), t.portion(9, 9)];
-    let others = [t.b.open_download(2), t.b.open_download(9)];
+    let others = [t.b.open_download(Examiner, 2), t.b.open_download(Examiner, 9)];
     let beside = t.portion(0, 3);
     vec![
         ("none open at first", at_first == [Err(12), Err(12)]),
@@ -114,34 +115,34 @@ fn order() -> Done {
 
 /// A closed board goes by the same rules; a new one has no download open.
 fn boards() -> Done {
-    let (closed, opened) = Board::open(0, 0, 0, 0);
+    let (closed, opened) = Board::open(0, 0, 0, 0, Access::NONE);
     let mut t = Small { b: closed, s: Vec::new(), r: Vec::new() };
     let before = [t.portion(0, 0), t.portion(0, 1)];
-    let count = [t.b.open_download(4), t.b.open_download(1), t.b.open_download(5)];
+    let count = [t.b.open_download(Examiner, 4), t.b.open_download(Examiner, 1), t.b.open_download(Examiner, 5)];
     let after = [t.portion(0, 0), t.portion(0, 1), t.portion(1, 0), t.portion_of(1, 0, 0, [&[0], &[]])];
     t.group_end();
     let mut new = three();
-    new.b = Board::open(4, 7, 256, 56).0;
+    new.b = Board::open(4, 7, 256, 56, Access::NONE).0;
     vec![
         ("a closed board", opened == Err(1) && before == [Err(12), Err(12)] && count == [Ok(0), Ok(0), Err(2)]),
         ("its portions", after == [Ok(vec![]), Err(2), Err(2), Err(1)] && t.portion(0, 0) == Err(12)),
-        ("a new board", new.portion(0, 0) == Err(12) && new.b.open_download(1) == Ok(0)),
+        ("a new board", new.portion(0, 0) == Err(12) && new.b.open_download(Examiner, 1) == Ok(0)),
     ]
 }
 
 /// The last words lent are those of channel 4.
 fn channel_4() -> Done {
     let mut t = Small::new(&[5]);
-    t.b.arm(4).unwrap();
+    t.b.arm(Examiner, 4).unwrap();
     t.write(0x200A, 3);
     t.write(0x2008, 1);
     t.sends(1, 10);
-    t.b.reply(4, frame(0x15, 2, 0), &mut t.r).unwrap();
+    t.b.reply(Examiner, 4, frame(0x15, 2, 0), &mut t.r).unwrap();
     t.write(0x2008, 4);
     let readbacks = t.r.clone();
     let lent = [&readbacks[42..49], &readbacks[49..]];
     vec![
-        ("channel 4 opened", t.b.open_download(4) == Ok(1)),
+        ("channel 4 opened", t.b.open_download(Examiner, 4) == Ok(1)),
         ("channel 4's words", t.portion_of(4, 0, 1, lent) == Ok(vec![0x8015_0002])),
     ]
 }
