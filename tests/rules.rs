@@ -58,8 +58,9 @@ const RECORDED: &[(&str, &str, usize, &str)] = &[
     (RULES, "card 6", 554, "84165e231def2525be3eb65caf5f920939e1fc4a7aa66f7de94dbfc3bf0935b3"),
     (RULES, "card 7", 625, "d6f5a8d7cfe11f20afd30e2aa335dbbaab455d4125cc10f055a058b3c70a26be"),
     (RULES, "card 8", 637, "9eddcaf48318cc459ea961e5a83fec57648c4f0074605d73e58e549dd5155706"),
-    (DECISIONS, "document 01", 9551, "5154f1bebb3c3136c5f47dd285ec9617f4a53c64d170d66be50ff8ef701e6fe3"),
-    (DECISIONS, "document 02", 4020, "d8848ac6a537bf854f0de666170b9c484fd1d3173e318a7f63f9798c89e5bd32"),
+    (RULES, "card 9", 1207, "916a838963edc8ad8652c4581aa7ba04caec9050125ec9b207442eafdfc3ff77"),
+    (DECISIONS, "document 01", 9840, "805584bcb73109ca0457dae0a58199ab97775eec748db48fc202267484d41415"),
+    (DECISIONS, "document 02", 4796, "49e39eb08d2521e35b5c95977821358589ac978022a750330b70cb52191a86ec"),
 ];
 
 // The entries of DECISIONS.md that a page cites: "entry D1", "Entry D1", "entries D1 (..) and D2", "entries D1 to D2".

@@ -8,6 +8,20 @@ use records::RecordsLength;
 use records::Request;
 use refusal::Refusal;
 
+fn setpoint(
+    block: &mut Block,
+    b: GuardedBoard,
+    setpoints: &mut [u32],
+    number: u32,
+    user: u32,
+    buffer: u32,
+    index: u32,
+    word: u32,
+) -> GuardedBoard {
+    let role = Role::Examiner;
+    printed_calls::write_setpoint(block, b, role, setpoints, number, user, buffer, index, word)
+}
+
 // A record's call, which is the examiner's, and the board after it.
 fn call(
     block: &mut Block,
@@ -16,52 +30,27 @@ fn call(
     readbacks: &mut [u32],
     request: Request,
 ) -> GuardedBoard {
+    let role = Role::Examiner;
     match request {
         Request::Write { address, value } => {
-            printed_calls::write_register(block, b, Role::Examiner, readbacks, address, value)
+            printed_calls::write_register(block, b, role, readbacks, address, value)
         }
-        Request::Read { address } => printed_calls::read_register(
-            block,
-            b,
-            Role::Examiner,
-            address,
-        ),
+        Request::Read { address } => printed_calls::read_register(block, b, role, address),
         Request::Setpoint {
             number,
             user,
             buffer,
             index,
             word,
-        } => printed_calls::write_setpoint(
-            block,
-            b,
-            Role::Examiner,
-            setpoints,
-            number,
-            user,
-            buffer,
-            index,
-            word,
-        ),
-        Request::Event { code } => printed_calls::event(block, b, Role::Examiner, readbacks, code),
-        Request::Ticks { count } => printed_ticks::ticks(
-            block,
-            b,
-            Role::Examiner,
-            setpoints,
-            count,
-        ),
-        Request::Reply { number, frame } => printed_calls::reply(
-            block,
-            b,
-            Role::Examiner,
-            readbacks,
-            number,
-            frame,
-        ),
-        Request::User { user } => printed_calls::change_user(block, b, Role::Examiner, user),
-        Request::Arm { number } => printed_calls::arm(block, b, Role::Examiner, number),
-        Request::Disarm { number } => printed_calls::disarm(block, b, Role::Examiner, number),
+        } => setpoint(block, b, setpoints, number, user, buffer, index, word),
+        Request::Event { code } => printed_calls::event(block, b, role, readbacks, code),
+        Request::Ticks { count } => printed_ticks::ticks(block, b, role, setpoints, count),
+        Request::Reply { number, frame } => {
+            printed_calls::reply(block, b, role, readbacks, number, frame)
+        }
+        Request::User { user } => printed_calls::change_user(block, b, role, user),
+        Request::Arm { number } => printed_calls::arm(block, b, role, number),
+        Request::Disarm { number } => printed_calls::disarm(block, b, role, number),
         Request::Bad => {
             printed_calls::refused(block, Refusal::BadRecord);
             b
