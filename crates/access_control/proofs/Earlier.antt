@@ -26,7 +26,7 @@ use Rattle.board_channels.specs.Calls as channels
 use Rattle.board_downloads.specs.Calls as downloads
 use Rattle.board_readings.specs.Calls.{readingsAnswer}
 use Rattle.board_registers.specs.Calls as registers
-use Rattle.isolation.specs.Calls.{writeRegister, readRegister, writeSetpoint, arm, disarm, openDownload, reply, query, tick, event, changeUser, interruptLevel, Lent, first, second, queryAnswerAt, answer}
+use Rattle.isolation.specs.Calls.{writeRegister, readRegister, writeSetpoint, arm, disarm, openDownload, reply, query, tick, event, changeUser, interruptLevel, Lent, first, queryAnswerAt, answer}
 use Rattle.access_control.specs.Guarding.{unmappedRefusal, addressRefusal, channelRefusal, earlierOn, refusedBy}
 use Rattle.access_control.specs.OneChannel.{queryEarlier}
 use Rattle.access_control.specs.Laws.{EarlierFirst, EarlierAlone}

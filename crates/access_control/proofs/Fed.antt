@@ -9,7 +9,7 @@ use borrow.Author.Tests.{eqb-true}
 use Rattle.address_map.specs.Addresses.{Named, named, main, channel, nothing}
 use Rattle.channel_core.specs.Answers.{Answer, unless}
 use Rattle.channel_core.specs.Answers as ans
-use Rattle.channel.specs.Calls.{then, retiredRefusal}
+use Rattle.channel.specs.Calls.{then}
 use Rattle.channel.specs.OneChannel.{Query, ChannelCall, lengthRefusal, refusalOf, answer, response, responses}
 use Rattle.channel.specs.OneChannel as to
 use Rattle.board.specs.Answers.{BoardAnswer, one}

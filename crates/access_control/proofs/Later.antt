@@ -1,6 +1,6 @@
 -- Once 1, 3 and the channel have passed, a call is refused by one of those that come after 13, or not at all. Assumes nothing.
 use Prim.Native.Nat.{ℕ, _+_, _*_}
-use mathlib.Core.Path.{_≡_, refl, sym, ap, _∙_}
+use mathlib.Core.Path.{_≡_, refl, ap}
 use mathlib.Core.Bool.{Bool, true, false, cond, _&&_}
 use lib.ListN.{length}
 use lib.Dec.{eqb, leb, ltb}
@@ -27,7 +27,7 @@ use Rattle.channel.specs.Calls.{then, outside, retiredRefusal, activeBuffer, se
 use Rattle.channel.specs.Downloads.{openingAnswer}
 use Rattle.channel.specs.OneChannel.{OneChannel, Query, lengthRefusal, framingRefusal, userRefusal, queryRefusal, refusalOf}
 use Rattle.channel.specs.OneChannel as to
-use Rattle.channel.proofs.Cases.{clash, either, then-passed}
+use Rattle.channel.proofs.Cases.{clash, either}
 use Rattle.board_state.specs.declared.Board.{Board}
 use Rattle.board_state.specs.State.{channelAt}
 use Rattle.board_state.specs.Checks.{noChannel, outOfRange, sizeMismatch}

@@ -21,10 +21,10 @@ use Rattle.permissions.specs.declared.Role.{Role}
 use Rattle.permissions.specs.declared.Role.the-variants as role
 use Rattle.permissions.specs.declared.ChannelRights.{ChannelRights}
 use Rattle.permissions.specs.declared.BoardRights.{BoardRights}
-use Rattle.permissions.specs.Rights.{clears, rightsAt}
+use Rattle.permissions.specs.Rights.{rightsAt}
 use Rattle.board_state.specs.declared.Board.{Board}
 use Rattle.board_state.specs.Checks.{setpointsFit, noChannel}
-use Rattle.board.specs.Answers.{BoardAnswer, one, each, ofFour, refuses}
+use Rattle.board.specs.Answers.{BoardAnswer, one, each, refuses}
 use Rattle.board.specs.Calls.{tickFrame, tickBoardAnswer}
 use Rattle.board.specs.Worlds.{World}
 use Rattle.isolation.specs.Calls.{Call, writeRegister, readRegister, writeSetpoint, arm, disarm, openDownload, reply, query, tick, event, changeUser, interruptLevel, Lending, Lent, none, words, buffers, step}
@@ -34,7 +34,7 @@ use Rattle.isolation.proofs.Parts.{Number}
 use Rattle.isolation.proofs.Cases.{of-four}
 use Rattle.isolation.proofs.Refused.{refused-changes-nothing}
 use Rattle.access_control.specs.Guarding.{Request, deniedWrite, deniedRead, denied, lentRefusal, unmappedRefusal, addressRefusal, channelRefusal, targetRefusal, earlierOn, permissionDenied, guardRefusal, refusedBy, shownFrame, shown, guardedAnswer, guardedAfter, guardedWords, guardedLentAfter, guardedStep}
-use Rattle.access_control.specs.OneChannel.{ChannelRequest, deniedTo, earlierTo, guardRefusalTo, guardedRefusal, shownTo, guardedTransition, guardedResponse}
+use Rattle.access_control.specs.OneChannel.{ChannelRequest, deniedTo, earlierTo, guardedRefusal, shownTo, guardedTransition, guardedResponse}
 use Rattle.access_control.specs.Laws.{isLater, refusalOn, Unguarded, CallsAnswered, TicksShown, GrantedAlone, ReadsClear, ExaminerUnguarded, ExaminerAlone}
 use Rattle.access_control.proofs.Earlier.{earlier-first, earlier-alone}
 use Rattle.access_control.proofs.Later.{later-only}

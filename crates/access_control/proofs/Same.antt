@@ -5,9 +5,8 @@ use mathlib.Core.Logic.{inl, inr}
 use mathlib.Core.Bool.{Bool, true, false}
 use lib.ListN.{length}
 use Rattle.channel.specs.OneChannel.{transitions}
-use Rattle.channel.proofs.Cases.{clash}
 use Rattle.board.specs.Worlds.{World}
-use Rattle.isolation.specs.Calls.{Call, Lent, none, words, buffers, first, second, lengths, Item, step, Fits}
+use Rattle.isolation.specs.Calls.{Call, Lent, none, words, buffers, first, second, lengths, step, Fits}
 use Rattle.isolation.specs.Feeding.{feed, feeds, view}
 use Rattle.isolation.proofs.Parts.{Number}
 use Rattle.isolation.proofs.Worlds.{Good, step-refused}

@@ -1,12 +1,10 @@
 -- What stands beside demand 3 by role: the end of a list in document 01's words, ranges, other channels, lists that feed the same. Assumes nothing.
-use Prim.Native.Nat.{ℕ, _*_}
+use Prim.Native.Nat.{ℕ}
 use mathlib.Core.Path.{_≡_, refl, sym, ap, ap₂, subst, _∙_}
-use mathlib.Core.List.{List}
 use Rattle.channel.specs.OneChannel.{OneChannel, oneChannel}
 use Rattle.histories.specs.Ranges.{InRange}
 use Rattle.histories.proofs.Depths.{depths-kept}
 use Rattle.permissions.specs.declared.ChannelRights.{ChannelRights}
-use Rattle.permissions.specs.declared.BoardRights.{BoardRights}
 use Rattle.permissions.specs.Rights.{rightsAt}
 use Rattle.board.specs.Worlds.{World}
 use Rattle.isolation.specs.Calls.{opening}

@@ -1,8 +1,8 @@
 -- A call that its role may make is a call that demand 3 allows; a good world stays good and keeps its depths. Assumes nothing.
 use Prim.Native.Nat.{ℕ}
 use mathlib.Core.Path.{_≡_, refl, sym, ap, subst, _∙_}
-use mathlib.Core.Logic.{_⊎_, inl, inr}
-use mathlib.Core.Bool.{Bool, true, false, cond}
+use mathlib.Core.Logic.{inl, inr}
+use mathlib.Core.Bool.{Bool, true, false}
 use mathlib.Core.List.{List, []}
 use native.Mathlib.Omega.{arith}
 use lib.ListN.{length}
@@ -11,10 +11,10 @@ use Rattle.channel_core.specs.Answers as ans
 use Rattle.channel.specs.OneChannel.{OneChannel}
 use Rattle.histories.proofs.Depths.{depths-kept}
 use Rattle.board_state.specs.declared.Board.{Board}
-use Rattle.board.specs.Answers.{BoardAnswer, one, each, refuses}
+use Rattle.board.specs.Answers.{refuses}
 use Rattle.board.specs.Calls.{openAnswer}
 use Rattle.board.specs.Worlds.{World}
-use Rattle.isolation.specs.Calls.{Call, Lent, Item, answer, after, lentAfter, refused, given, step, Fits, opening}
+use Rattle.isolation.specs.Calls.{Call, Lent, Item, answer, refused, step, Fits, opening}
 use Rattle.isolation.specs.Feeding.{feeds, view}
 use Rattle.isolation.specs.Isolation.{oneChannelAt}
 use Rattle.isolation.proofs.Parts.{Number}
@@ -26,7 +26,7 @@ use Rattle.permissions.specs.declared.Role.{Role}
 use Rattle.permissions.specs.declared.BoardRights.{BoardRights}
 use Rattle.access_control.specs.Guarding.{Request, denied, guardRefusal, guardedAnswer, guardedAfter, guardedLentAfter, guardedStep, GuardedFits}
 use Rattle.access_control.specs.Isolation.{RefusedChangesNothing, RefusedStays}
-use Rattle.access_control.proofs.Laws.{shown-refuses, passed-answer, passed-board, passed-lent, stopped-board, stopped-lent, answer-granted, step-stopped, step-denied, step-granted, denied-stops}
+use Rattle.access_control.proofs.Laws.{shown-refuses, passed-answer, passed-board, passed-lent, stopped-board, stopped-lent, answer-granted, step-denied, step-granted}
 
 -- ---- A call without its role
 

@@ -24,7 +24,7 @@ use Rattle.board_state.specs.declared.Board.{Board}
 use Rattle.board_state.specs.Checks.{noChannel}
 use Rattle.board.specs.Answers.{BoardAnswer, one, each, refuses}
 use Rattle.board.specs.Worlds.{World}
-use Rattle.isolation.specs.Calls.{Call, writeRegister, readRegister, writeSetpoint, arm, disarm, openDownload, reply, query, tick, event, changeUser, interruptLevel, Lending, lendsNothing, lendsSetpoints, lendsReadbacks, lendsBuffers, lending, Lent, none, words, buffers, first, second, lengths, Item, answer, after, wordsAfter, lentAfter, given, withBoard, back}
+use Rattle.isolation.specs.Calls.{Call, writeRegister, readRegister, writeSetpoint, arm, disarm, openDownload, reply, query, tick, event, changeUser, interruptLevel, Lending, lendsNothing, lendsSetpoints, lendsReadbacks, lendsBuffers, lending, Lent, none, words, buffers, first, second, lengths, Item, answer, after, wordsAfter, given, withBoard, back}
 use Rattle.access_control.specs.declared.GuardedBoard.{GuardedBoard}
 
 -- a call with what it is lent, and who makes it

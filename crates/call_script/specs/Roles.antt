@@ -1,4 +1,4 @@
--- Who makes a record's call, and the rights that an opening gives (tests/CALLS.md, Roles).
+-- Who makes a record's call, and the rights that an opening gives (tests/CALLS.md, Seats).
 use Prim.Native.Nat.{ℕ, _+_, _/_, _%_, _^_}
 use mathlib.Core.Bool.{Bool, cond}
 use lib.Dec.{eqb}

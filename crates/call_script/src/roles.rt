@@ -1,4 +1,4 @@
-// Who makes a record's call, and the rights that an opening gives (tests/CALLS.md, Roles).
+// Who makes a record's call, and the rights that an opening gives (tests/CALLS.md, Seats).
 use permissions::BoardRights;
 use permissions::ChannelRights;
 use permissions::Rights;

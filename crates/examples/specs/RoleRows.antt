@@ -1,8 +1,7 @@
 -- Document 02, card 9, on a board of depths 1 and 1 with zeroed words: what each role is answered. A role is the card's seat.
-use Prim.Native.Nat.{ℕ}
 use mathlib.Core.Path.{_≡_}
 use mathlib.Core.Bool.{Bool, true, false}
-use mathlib.Core.List.{List, [], _∷_, _++_}
+use mathlib.Core.List.{[]}
 use lib.ListN.{replicate}
 use Rattle.channel_core.specs.Answers.{value, frame, done, none, part, partLength}
 use Rattle.channel.specs.OneChannel.{retired, retiredLength, readings, portion, portionLength}
@@ -14,7 +13,7 @@ use Rattle.permissions.specs.Rights.{rights}
 use Rattle.board.specs.Answers.{BoardAnswer, one, each}
 use Rattle.board.specs.Worlds.{World}
 use Rattle.isolation.specs.Calls.{Call, writeRegister, readRegister, writeSetpoint, arm, disarm, openDownload, reply, query, tick, event, changeUser, interruptLevel, Lent, words, buffers, given, opening}
-use Rattle.access_control.specs.Guarding.{Request, refusedBy, guardedAnswer, guardedStep}
+use Rattle.access_control.specs.Guarding.{refusedBy, guardedAnswer, guardedStep}
 
 -- the candidate may neither read nor write channel 1, both channel 2, read channel 3 and write channel 4; the watcher may read channel 1, neither channel 2,
 -- write channel 3 and both channel 4

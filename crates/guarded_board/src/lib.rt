@@ -9,7 +9,6 @@ use permissions::Role;
 use refusal::Refusal;
 use refusal::Verdict;
 ghost use mathlib.Core.Path.{_≡_};
-ghost use Prim.Native.Nat.{_≤_};
 ghost use lib.ListN.{length};
 ghost use Rattle.channel_core.specs.Answers.{lineOf, outcomeOf};
 ghost use Rattle.permissions.specs.Rights.{rightsAt};

@@ -9,7 +9,6 @@ use permissions::Role;
 use refusal::Verdict;
 ghost use mathlib.Core.Path.{_≡_};
 ghost use mathlib.Core.Bool.{not};
-ghost use Rattle.refusal.specs.Refusals.{verdictNumber};
 ghost use Rattle.address_map.specs.Addresses.{namedOf};
 ghost use Rattle.channel_core.specs.Answers.{outcomeOf};
 ghost use Rattle.channel_registers.specs.Answers.{readOutcomeOf};

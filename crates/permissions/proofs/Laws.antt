@@ -1,7 +1,7 @@
 -- Which right the read of a register comes down to. Assumes nothing.
 use Prim.Native.Nat.{ℕ}
 use mathlib.Core.Path.{_≡_, refl}
-use mathlib.Core.Bool.{Bool, true, false, not, _&&_, _||_}
+use mathlib.Core.Bool.{Bool, true, false, _&&_, _||_}
 use Rattle.permissions.specs.declared.Rights.{Rights}
 use Rattle.permissions.specs.Rights.{clears, readsRegister}
 

@@ -2,14 +2,11 @@
 use Prim.Native.Nat.{ℕ}
 use mathlib.Core.Path.{_≡_, sym, ap, _∙_}
 use mathlib.Core.List.{List}
-use Rattle.channel_core.specs.Answers.{Answer, isFrame}
-use Rattle.channel.specs.OneChannel.{responses}
-use Rattle.permissions.specs.declared.Role.the-variants as role
+use Rattle.channel_core.specs.Answers.{isFrame}
 use Rattle.permissions.specs.declared.BoardRights.{BoardRights}
 use Rattle.permissions.specs.Rights.{rightsAt}
 use Rattle.isolation.specs.Feeding.{fed}
-use Rattle.access_control.specs.OneChannel.{ChannelRequest, guardedResponses}
-use Rattle.access_control.specs.Isolation.{asRole}
+use Rattle.access_control.specs.OneChannel.{guardedResponses}
 use Rattle.access_control.proofs.Granted.{examiner-lists, examiner-fed, examiner-history}
 use Rattle.tally.specs.declared.Counts.{Counts}
 use Rattle.tally.specs.Answers.{counted}

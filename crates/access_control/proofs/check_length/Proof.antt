@@ -1,15 +1,12 @@
-use borrow.Author.Tests.{lt-ltb, le-ltb, le-leb, lt-leb, eq-eqb, ne-eqb}
+-- `access_control::check_length` meets its contract: by the tests on the way and the contracts of what it calls. Assumes nothing.
+use borrow.Author.Tests.{eq-eqb, ne-eqb}
 use Rattle.access_control.proofs.check_length.Statement.{statement}
 use Rattle.access_control.proofs.check_length.Tie as tie
-use Rattle.access_control.proofs.check_length.Reads as reads
-use Rattle.access_control.proofs.check_length.Lts as lts
 
--- src/lib.rt:34:9
 returns : tie.Need-returns
 returns c =
     simp (eq-eqb _ _ (c .if1 .taken))
 
--- src/lib.rt:30:1
 returns-2 : tie.Need-returns-2
 returns-2 c =
     simp (ne-eqb _ _ (c .if1 .left))

@@ -1,16 +1,13 @@
+-- `access_control::check_permission` meets its contract: by the tests on the way and the contracts of what it calls. Assumes nothing.
 use Rattle.refusal.proofs.Laws.{refuses}
-use borrow.Author.Tests.{lt-ltb, le-ltb, le-leb, lt-leb, eq-eqb, ne-eqb}
+use borrow.Author.Tests.{eq-eqb}
 use borrow.Author.Needs.{needs}
 use Rattle.access_control.proofs.check_permission.Statement.{statement}
 use Rattle.access_control.proofs.check_permission.Tie as tie
-use Rattle.access_control.proofs.check_permission.Reads as reads
-use Rattle.access_control.proofs.check_permission.Lts as lts
 
--- src/lib.rt:92:16
 enum-told : tie.Need-enum-told
 enum-told c = search needs
 
--- src/lib.rt:93:17
 returns : tie.Need-returns
 returns c =
     simp (
@@ -19,11 +16,9 @@ returns c =
       eq-eqb _ _ (c .before .before .match .keys1),
     )
 
--- src/lib.rt:97:26
 enum-known-verdict : tie.Need-enum-known-verdict
 enum-known-verdict c = search needs
 
--- src/lib.rt:87:1
 returns-2 : tie.Need-returns-2
 returns-2 c =
     simp (
@@ -32,7 +27,6 @@ returns-2 c =
       eq-eqb _ _ (c .before .before .match .keys1),
     )
 
--- src/lib.rt:87:1
 returns-3 : tie.Need-returns-3
 returns-3 c =
     simp (c .before .verdict .given .1, refuses)

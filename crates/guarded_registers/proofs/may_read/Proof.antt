@@ -1,10 +1,7 @@
+-- `guarded_registers::may_read` meets its contract: by the tests on the way and the contracts of what it calls. Assumes nothing.
 use borrow.Author.Needs.{needs}
 use Rattle.guarded_registers.proofs.may_read.Statement.{statement}
 use Rattle.guarded_registers.proofs.may_read.Tie as tie
-use Rattle.guarded_registers.proofs.may_read.Reads as reads
-use Rattle.guarded_registers.proofs.may_read.Lts as lts
-use Rattle.permissions.proofs.BoardRights.may_read_register.Reads as may-read-register-reads
-use Rattle.permissions.proofs.is_examiner.Reads as is-examiner-reads
 
 enum-told : tie.Need-enum-told
 enum-told c = search needs

@@ -1,10 +1,7 @@
+-- `guarded_registers::may_write` meets its contract: by the tests on the way and the contracts of what it calls. Assumes nothing.
 use borrow.Author.Needs.{needs}
 use Rattle.guarded_registers.proofs.may_write.Statement.{statement}
 use Rattle.guarded_registers.proofs.may_write.Tie as tie
-use Rattle.guarded_registers.proofs.may_write.Reads as reads
-use Rattle.guarded_registers.proofs.may_write.Lts as lts
-use Rattle.permissions.proofs.BoardRights.may_write.Reads as may-write-reads
-use Rattle.permissions.proofs.is_examiner.Reads as is-examiner-reads
 
 enum-told : tie.Need-enum-told
 enum-told c = search needs

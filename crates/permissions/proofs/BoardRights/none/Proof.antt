@@ -1,15 +1,11 @@
+-- `permissions::BoardRights::none` meets its contract: by the tests on the way and the contracts of what it calls. Assumes nothing.
 use borrow.Author.Needs.{needs}
 use Rattle.permissions.proofs.BoardRights.none.Statement.{statement}
 use Rattle.permissions.proofs.BoardRights.none.Tie as tie
-use Rattle.permissions.proofs.BoardRights.none.Reads as reads
-use Rattle.permissions.proofs.BoardRights.none.Lts as lts
-use Rattle.permissions.proofs.none.Reads as none-reads
 
--- src/lib.rt:52:13
 none-requires : tie.Need-none-requires
 none-requires c κs = search needs
 
--- src/lib.rt:49:5
 returns : tie.Need-returns
 returns c = simp (c .none .ensures)
 
