@@ -5,6 +5,7 @@ mod order;
 
 use super::{Done, Small};
 use crate::board::{Portion, Setpoint};
+use crate::map::{readable, writable};
 use crate::role::Role::{Candidate, Examiner, Watcher};
 use crate::role::{Access, Permissions, Role};
 
@@ -79,7 +80,7 @@ const RUNS: [(&str, Ask); 2] = [
 ];
 
 pub fn all() -> Done {
-    [of_channel(), shared(), clearing(), order::all(), frames::all()].concat()
+    [of_channel(), registers(), shared(), clearing(), order::all(), frames::all()].concat()
 }
 
 /// With one permission for the one role and all others for the other, a call is the one's on its channel or the other's.
@@ -97,6 +98,19 @@ fn of_channel() -> Done {
     let writes = WRITES.map(|(name, ask)| (name, needs(ask, |c| 0x10 << (c - 1))));
     let reads = READS.map(|(name, ask)| (name, needs(ask, |c| 1 << (c - 1))));
     [writes, reads].concat()
+}
+
+/// Every register of channel 1 needs the one permission alone, but those that a read clears.
+fn registers() -> Done {
+    let mut t = Small::open_for(7, &[5], access(0x01, 0x10));
+    let mut read = readable();
+    read.retain(|offset| ![0x02, 0x04, 0x0C].contains(offset));
+    let is_read = |t: &mut Small, offset| [Candidate, Watcher].map(|role| number(t.b.read(role, 0x800 + offset))) == [0, 13];
+    let is_written = |t: &mut Small, offset| [Candidate, Watcher].map(|role| t.write_as(role, 0x800 + offset, 0)) == [13, 0];
+    vec![
+        ("every register read", read.iter().all(|offset| is_read(&mut t, *offset))),
+        ("every register written", writable().iter().all(|offset| is_written(&mut t, *offset))),
+    ]
 }
 
 fn shared() -> Done {

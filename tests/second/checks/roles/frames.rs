@@ -8,7 +8,7 @@ use crate::frame::frame;
 use crate::role::Role::{Candidate, Examiner, Watcher};
 
 pub fn all() -> Done {
-    [shown(), counted(), commands()].concat()
+    [shown(), counted(), commands(), events()].concat()
 }
 
 /// Channel 1 sends 5 and then 6, and channels 2 to 4 send 0, first on the tenth tick.
@@ -59,12 +59,18 @@ fn counted() -> Done {
     (0..10).for_each(|_| _ = short.tick(Candidate));
     let mut flagged = sent();
     flagged.reply(7);
+    // N is 4: the fourth word, on tick 40, is last
+    let mut last = four(0xFE);
+    last.write(0x800, 0x4000);
+    tenth(&mut last);
+    (0..30).for_each(|_| _ = last.tick(Candidate));
     vec![
         ("a reply is due", sent().reply(7) == Reply::Kept),
         ("and describes the first word", flagged.r[0] == 0x8015_0007),
         ("the next word follows", next.sends(11, 20) == [(20, 6)]),
         ("the setpoint count is 1", ended.b.read(Examiner, 0x812) == Ok(1)),
         ("six are missing", short.b.read(Examiner, 0x80C) == Ok(6)),
+        ("EOF is latched, and channel 1's bit of Main", last.b.read(Examiner, 0x2A) == Ok(0x0810)),
     ]
 }
 
@@ -85,4 +91,12 @@ fn commands() -> Done {
         ("one that is not shown leaves once", is_hidden && is_gone),
         ("and takes replies", kept == 0 && hidden.b.read(Examiner, 0x8E6) == Ok(9)),
     ]
+}
+
+/// An event of a candidate who has no permission comes to every channel.
+fn events() -> Done {
+    let mut t = Small::open_for(7, &[5], access(0, 0xFF));
+    t.write(0x820, 0x101);
+    let told = t.event_as(Candidate, 1);
+    vec![("an event starts a channel that the candidate may not write", told == 0 && t.sends(1, 10) == [(10, 5)])]
 }

@@ -7,7 +7,7 @@ use crate::role::Role::{Candidate, Examiner, Watcher};
 use crate::role::{Access, Role};
 
 pub fn all() -> Done {
-    [before(), after(), left(), given(), kept()].concat()
+    [before(), after(), left(), left_registers(), given(), kept()].concat()
 }
 
 /// "checked once 1, 3 and the channel have passed"
@@ -78,6 +78,28 @@ fn left() -> Done {
         ("what is refused 13", refused == [13; 7] && reply == Err(13)),
         ("is not done", sent == [(10, 5)] && t.b.read(Examiner, 0x28) == Ok(0x0800)),
         ("a refused reply takes no place", kept[..6] == [Reply::Kept; 6] && kept[6] == Reply::Unasked),
+        ("a refused download is not open", t.b.open_download(Candidate, 1) == Err(13) && t.portion_as(Examiner, 1, 0, 0) == 12),
+    ]
+}
+
+/// The same of registers, and of a channel that is not armed.
+fn left_registers() -> Done {
+    let mut t = Small::open_for(7, &[5], access(0xEE, 0xEE));
+    t.b.disarm(Examiner, 1).unwrap();
+    t.event_as(Examiner, 1);
+    let refused = [
+        number(t.b.arm(Candidate, 1)), t.write_as(Watcher, 0x814, 7), t.write_as(Candidate, 0x22, 7),
+        t.write_as(Candidate, 0x830, 1), number(t.b.read(Watcher, 0x28)),
+    ];
+    t.write(0x808, 1);
+    let sent = t.sends(1, 10);
+    t.group_end();
+    let read = [0x814, 0x22, 0x80E, 0x28].map(|address| t.b.read(Examiner, address).unwrap());
+    vec![
+        ("arming and registers refused 13", refused == [13; 5]),
+        ("a channel that is not armed", sent.is_empty()),
+        // Frame ID 0, Level 0, readback buffer 2 active and no switch, an event came
+        ("registers as they were", read == [0, 0, 0x100, 0x0808]),
     ]
 }
 
