@@ -60,7 +60,7 @@ const RECORDED: &[(&str, &str, usize, &str)] = &[
     (RULES, "card 8", 637, "9eddcaf48318cc459ea961e5a83fec57648c4f0074605d73e58e549dd5155706"),
     (RULES, "card 9", 1207, "916a838963edc8ad8652c4581aa7ba04caec9050125ec9b207442eafdfc3ff77"),
     (DECISIONS, "document 01", 9840, "805584bcb73109ca0457dae0a58199ab97775eec748db48fc202267484d41415"),
-    (DECISIONS, "document 02", 4796, "49e39eb08d2521e35b5c95977821358589ac978022a750330b70cb52191a86ec"),
+    (DECISIONS, "document 02", 4855, "a67268f20060992405563d5e4e514bca99fe3fdc8cddd96f3175d5c879d209d4"),
 ];
 
 // The entries of DECISIONS.md that a page cites: "entry D1", "Entry D1", "entries D1 (..) and D2", "entries D1 to D2".

@@ -11,6 +11,7 @@ use Rattle.permissions.specs.declared.Role.the-variants as role
 use Rattle.permissions.specs.declared.BoardRights.{BoardRights}
 use Rattle.access_control.specs.Guarding.{guardedStep, GuardedFits}
 use Rattle.access_control.specs.Noninterference.{arming, tickBy, NotVacuous}
+use Rattle.access_control.proofs.Granted.{denied-fits}
 use Rattle.access_control.proofs.Laws.{answer-denied, step-denied, step-granted}
 
 -- arming leaves the setpoints
@@ -22,7 +23,7 @@ arming-sets r w =
 
 module _ (r : BoardRights) (w : World) (foreign : List ℕ) where
   watched : GuardedFits r w (tickBy role.Watcher foreign)
-  watched = inl (λ l e. ap refuses (answer-denied r role.Watcher (w .board) tick l refl))
+  watched = denied-fits r w (tickBy role.Watcher foreign) refl
 
   watched-sets : guardedStep r w (tickBy role.Watcher foreign) .setpoints ≡ w .setpoints
   watched-sets = ap (λ (v : World). v .setpoints) (step-denied r w (tickBy role.Watcher foreign) refl)

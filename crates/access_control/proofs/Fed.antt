@@ -32,11 +32,11 @@ use Rattle.access_control.proofs.Laws.{then-granted}
 use Rattle.access_control.proofs.Worlds.{at}
 
 -- the channel passed
-then-passed : (q c : ℕ) → Number c → then q (channelRefusal c) ≡ q
-then-passed q c h = ap (λ (b : Bool). then q (cond b 2 0)) (in-range c h) ∙ then-granted q
+number-passed : (q c : ℕ) → Number c → then q (channelRefusal c) ≡ q
+number-passed q c h = ap (λ (b : Bool). then q (cond b 2 0)) (in-range c h) ∙ then-granted q
 
-passed : (c : ℕ) → Number c → channelRefusal c ≡ 0
-passed c h = ap (λ (b : Bool). cond b 2 0) (in-range c h)
+in-range-passed : (c : ℕ) → Number c → channelRefusal c ≡ 0
+in-range-passed c h = ap (λ (b : Bool). cond b 2 0) (in-range c h)
 
 -- a query is lent what its case says, or nothing
 query-lent : (n m d : ℕ) (q : Query) (k j : ℕ) → lentRefusal n m (queryLending d q) k j ≡ queryEarlier m q k j
@@ -124,7 +124,7 @@ module _ (r : BoardRights) (p : Role) (w : World) (g : Good w) (c : ℕ) (h : Nu
 
   -- refused by q before the channel's number, which is right
   ranged : (q d : ℕ) → d ≡ c → then q (channelRefusal d) ≡ q
-  ranged q d e = ap (λ (d : ℕ). then q (channelRefusal d)) e ∙ then-passed q c h
+  ranged q d e = ap (λ (d : ℕ). then q (channelRefusal d)) e ∙ number-passed q c h
 
   -- "a tick's answer shows a seat only channels it may read"
   tick-shown : Fits w (at tick l) → observe c tick (shown r p (calls.answer (w .board) tick l))
@@ -152,10 +152,10 @@ module _ (r : BoardRights) (p : Role) (w : World) (g : Good w) (c : ℕ) (h : Nu
   fed-one (writeSetpoint d u b i y) =
       naming (writeSetpoint d u b i y) d (to.writeSetpoint (length (first l)) u b i y) refl (λ s. refl) (writing d)
       (ranged (lengthRefusal (length (first l)) (w .board .n * 64)) d) refl refl
-  fed-one (arm d) = naming (arm d) d to.arm refl (λ s. refl) (writing d) (λ q. ap channelRefusal q ∙ passed c h) refl refl
-  fed-one (disarm d) = naming (disarm d) d to.disarm refl (λ s. refl) (writing d) (λ q. ap channelRefusal q ∙ passed c h) refl refl
+  fed-one (arm d) = naming (arm d) d to.arm refl (λ s. refl) (writing d) (λ q. ap channelRefusal q ∙ in-range-passed c h) refl refl
+  fed-one (disarm d) = naming (disarm d) d to.disarm refl (λ s. refl) (writing d) (λ q. ap channelRefusal q ∙ in-range-passed c h) refl refl
   fed-one (openDownload d) =
-      naming (openDownload d) d to.openDownload refl (λ s. refl) (reading d) (λ q. ap channelRefusal q ∙ passed c h) refl refl
+      naming (openDownload d) d to.openDownload refl (λ s. refl) (reading d) (λ q. ap channelRefusal q ∙ in-range-passed c h) refl refl
   fed-one (reply d y) =
       naming (reply d y) d (to.reply (length (first l)) y) refl (λ s. refl) (writing d)
       (ranged (lengthRefusal (length (first l)) (w .board .m * 8)) d) refl refl

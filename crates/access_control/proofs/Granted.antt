@@ -52,7 +52,7 @@ granted-history r o (k ∷ ks) = granted-history r (guardedTransition r o k) ks 
 -- ---- The other way round
 
 -- a call that is denied may be lent anything
-denied-fits : (r : BoardRights) (w : World) (i : Request) → denied r (i .role) (i .item .call) ≡ true → GuardedFits r w i
+pub denied-fits : (r : BoardRights) (w : World) (i : Request) → denied r (i .role) (i .item .call) ≡ true → GuardedFits r w i
 denied-fits r w i d = inl (λ l e. ap refuses (answer-denied r (i .role) (w .board) (i .item .call) l d))
 
 granted-fits : (r : BoardRights) (w : World) (i : Request) → denied r (i .role) (i .item .call) ≡ false → Fits w (i .item) → GuardedFits r w i
@@ -91,17 +91,13 @@ byOne i = record { role = role.Examiner; item = i }
 examiner-step : (r : BoardRights) (w : World) (i : Item) → guardedStep r w (byOne i) ≡ step w i
 examiner-step r w i = step-granted r w (byOne i) (examiner-granted r (i .call))
 
-examiner-fits : (r : BoardRights) (w : World) (i : Item) → Fits w i → GuardedFits r w (byOne i)
-examiner-fits r w i (inl f) = inl (λ l e. ap refuses (examiner-unguarded r (w .board) (i .call) l .1) ∙ f l e)
-examiner-fits r w i (inr e) = inr e
-
 pub examiner-lists : ExaminerLists
 examiner-lists r w [] = record { allowed = λ a. tt; answers = refl; ends = refl }
 examiner-lists r w (i ∷ xs) =
     let q = examiner-lists r (step w i) xs in
     let e = examiner-step r w i in
     record {
-      allowed = λ a. (examiner-fits r w i (a .0), subst (λ (v : World). GuardedAllowed r v (byExaminer xs)) (sym e) (q .allowed (a .1)));
+      allowed = λ a. (granted-fits r w (byOne i) (examiner-granted r (i .call)) (a .0), subst (λ (v : World). GuardedAllowed r v (byExaminer xs)) (sym e) (q .allowed (a .1)));
       answers =
           ap₂ (λ (a : BoardAnswer) (l : List BoardAnswer). a ∷ l) (examiner-unguarded r (w .board) (i .call) (i .lent) .1)
           (ap (λ (v : World). guardedAnswers r v (byExaminer xs)) e ∙ q .answers);

@@ -13,7 +13,7 @@ use Rattle.isolation.specs.Feeding.{feeds, observe, view}
 use Rattle.isolation.proofs.Parts.{Number}
 use Rattle.isolation.proofs.Worlds.{Good}
 use Rattle.isolation.proofs.Items.{item}
-use Rattle.isolation.proofs.Isolation.{good-opening}
+use Rattle.isolation.proofs.Isolation.{good-opening, view-opening}
 use Rattle.permissions.specs.declared.ChannelRights.{ChannelRights}
 use Rattle.permissions.specs.declared.BoardRights.{BoardRights}
 use Rattle.permissions.specs.Rights.{rightsAt}
@@ -21,7 +21,7 @@ use Rattle.access_control.specs.Guarding.{Request, denied, permissionDen
 use Rattle.access_control.specs.OneChannel.{ChannelRequest, guardedTransition, guardedResponse, guardedTransitions, guardedResponses}
 use Rattle.access_control.specs.Isolation.{asRole, guardedFed, MatchesGuardedChannel, GuardedIsolation}
 use Rattle.access_control.proofs.Laws.{answer-denied, answer-granted, step-denied, step-granted, response-denied, response-granted, transition-denied, transition-granted}
-use Rattle.access_control.proofs.Worlds.{fits, good-guarded, view-opening}
+use Rattle.access_control.proofs.Worlds.{fits, good-guarded}
 use Rattle.access_control.proofs.Fed.{Fed, ours, theirs, fed-one}
 
 -- ---- One call

@@ -35,7 +35,7 @@ use Rattle.isolation.proofs.Cases.{of-four}
 use Rattle.isolation.proofs.Refused.{refused-changes-nothing}
 use Rattle.access_control.specs.Guarding.{Request, deniedWrite, deniedRead, denied, lentRefusal, unmappedRefusal, addressRefusal, channelRefusal, targetRefusal, earlierOn, permissionDenied, guardRefusal, refusedBy, shownFrame, shown, guardedAnswer, guardedAfter, guardedWords, guardedLentAfter, guardedStep}
 use Rattle.access_control.specs.OneChannel.{ChannelRequest, deniedTo, earlierTo, guardedRefusal, shownTo, guardedTransition, guardedResponse}
-use Rattle.access_control.specs.Laws.{isLater, refusalOn, Unguarded, CallsAnswered, TicksShown, GrantedAlone, ReadsClear, ExaminerUnguarded, ExaminerAlone}
+use Rattle.access_control.specs.Laws.{isLater, refusalOn, Unguarded, CallsAnswered, TicksShown, GrantedAlone, OtherReadsLeave, ExaminerUnguarded, ExaminerAlone}
 use Rattle.access_control.proofs.Earlier.{earlier-first, earlier-alone}
 use Rattle.access_control.proofs.Later.{later-only}
 
@@ -343,9 +343,9 @@ either-false : (s t : Bool) → s || t ≡ false → (s ≡ false) × (t ≡ fal
 either-false true t e = clash (sym e)
 either-false false t e = (refl, e)
 
-pub reads-clear : ReadsClear
+pub other-reads-leave : OtherReadsLeave
 unfolding transition effect readEffect
-reads-clear o x h =
+other-reads-leave o x h =
     let a = either-false (eqb x 0x02) _ h in
     let b = either-false (eqb x 0x04) _ (a .1) in
     either (λ (u : OneChannel). u ≡ o) (eqb (refusalOf o (to.readRegister x)) 0) (rw (a .0, b .0, b .1)) refl

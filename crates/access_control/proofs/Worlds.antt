@@ -21,7 +21,7 @@ use Rattle.isolation.proofs.Parts.{Number}
 use Rattle.isolation.proofs.Refused.{refused-changes-nothing}
 use Rattle.isolation.proofs.Worlds.{Good, step-refused}
 use Rattle.isolation.proofs.Items.{item}
-use Rattle.isolation.proofs.Isolation.{good-step, isolation}
+use Rattle.isolation.proofs.Isolation.{good-step}
 use Rattle.permissions.specs.declared.Role.{Role}
 use Rattle.permissions.specs.declared.BoardRights.{BoardRights}
 use Rattle.access_control.specs.Guarding.{Request, denied, guardRefusal, guardedAnswer, guardedAfter, guardedLentAfter, guardedStep, GuardedFits}
@@ -89,9 +89,3 @@ deep-step w g i f =
 
 pub deep-guarded : (r : BoardRights) (w : World) (i : Request) → Good w → GuardedFits r w i → Deep w (guardedStep r w i)
 deep-guarded r w i g f = after-guarded (Deep w) r w i f (record { n = refl; m = refl }) (λ b. deep-step w g (i .item) b)
-
--- ---- From an opening
-
-pub view-opening : (n m : ℕ) (s t : List ℕ) → openAnswer n m (length s) (length t) ≡ ans.done → (c : ℕ) → Number c
-    → view c (opening n m s t) ≡ oneChannelAt c n m s t
-view-opening n m s t e c h = isolation n m s t e c (h .low) (h .high) [] tt .ends

@@ -128,7 +128,8 @@ granted r [] = []
 granted r (i ∷ is) = only (not (denied r (i .role) (i .item .call))) (i .item) ++ granted r is
 
 -- they are a list that demand 3 allows, and it ends in the same world: so the laws over such lists (isolation/specs/Isolation) hold of the calls granted
--- and of the world that the whole list leads to. What each of them is answered: `Unguarded` (specs/Laws)
+-- and of the world that the whole list leads to. What each of them is answered by role: what the board's own call answers, a tick's frames shown or not (`Unguarded`,
+-- specs/Laws)
 abbrev pub GrantedCalls : Type 0
 GrantedCalls =
     (r : BoardRights) (w : World) (xs : List Request) → GuardedAllowed r w xs

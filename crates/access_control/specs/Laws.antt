@@ -94,8 +94,8 @@ GrantedAlone =
     × (guardedTransition r o k ≡ transition o (k .call))
 
 -- "reading 02, 04 or 0C needs both, as it clears": a read of any other register changes nothing
-abbrev pub ReadsClear : Type 0
-ReadsClear = (o : OneChannel) (offset : ℕ) → clears offset ≡ false → transition o (readRegister offset) ≡ o
+abbrev pub OtherReadsLeave : Type 0
+OtherReadsLeave = (o : OneChannel) (offset : ℕ) → clears offset ≡ false → transition o (readRegister offset) ≡ o
 
 -- ---- "The examiner has all."
 

@@ -3,7 +3,7 @@ use mathlib.Core.Path.{_≡_}
 use mathlib.Core.Bool.{Bool, true, false}
 use mathlib.Core.List.{[]}
 use lib.ListN.{replicate}
-use Rattle.channel_core.specs.Answers.{value, frame, done, none, part, partLength}
+use Rattle.channel_core.specs.Answers.{value, frame, done, none, unsolicited, part, partLength}
 use Rattle.channel.specs.OneChannel.{retired, retiredLength, readings, portion, portionLength}
 use Rattle.permissions.specs.declared.Role.{Role}
 use Rattle.permissions.specs.declared.Role.the-variants as role
@@ -20,8 +20,8 @@ use Rattle.access_control.specs.Guarding.{refusedBy, guardedAnswer, guardedStep
 abbrev pub atChannel : (candidateReads candidateWrites watcherReads watcherWrites : Bool) → ChannelRights
 atChannel cr cw wr ww = record { candidate = rights cr cw; watcher = rights wr ww }
 
-abbrev pub given-rights : BoardRights
-given-rights =
+abbrev pub rightsGiven : BoardRights
+rightsGiven =
     record {
       first = atChannel false false true false;
       second = atChannel true true false false;
@@ -34,18 +34,18 @@ opened = opening 1 1 (replicate 64 0) (replicate 8 0)
 
 -- a call by a role, lent the memory as those before it left it
 abbrev pub called : World → Role → Call → World
-called w p x = guardedStep given-rights w (record { role = p; item = record { call = x; lent = given w x } })
+called w p x = guardedStep rightsGiven w (record { role = p; item = record { call = x; lent = given w x } })
 
 -- what a role is answered in a world, lent that memory; and in the world opened
 abbrev pub answeredIn : World → Role → Call → BoardAnswer
-answeredIn w p x = guardedAnswer given-rights p (w .board) x (given w x)
+answeredIn w p x = guardedAnswer rightsGiven p (w .board) x (given w x)
 
 abbrev pub asks : Role → Call → BoardAnswer
 asks p x = answeredIn opened p x
 
 -- lent this instead
 abbrev pub asksLent : Role → Call → Lent → BoardAnswer
-asksLent p x l = guardedAnswer given-rights p (opened .board) x l
+asksLent p x l = guardedAnswer rightsGiven p (opened .board) x l
 
 abbrev pub candidate : Call → BoardAnswer
 candidate x = asks role.Candidate x
@@ -79,10 +79,12 @@ pub record RoleRows : Type 0 where
   pub setpoint-read-alone : candidate (writeSetpoint 3 1 1 0 5) ≡ denied
   pub setpoint-write-alone : candidate (writeSetpoint 4 1 1 0 5) ≡ one done
   pub arm-denied : candidate (arm 1) ≡ denied
+  pub arm-read-alone : candidate (arm 3) ≡ denied
   pub arm-granted : candidate (arm 4) ≡ one done
   pub disarm-denied : watcher (disarm 1) ≡ denied
   pub disarm-granted : watcher (disarm 3) ≡ one done
   pub reply-denied : candidate (reply 3 3) ≡ denied
+  pub reply-granted : candidate (reply 4 3) ≡ one unsolicited
   -- "Register reads, voltages, retired parts and downloads need the read right"
   pub read-denied : candidate (readRegister 0x2014) ≡ denied
   pub read-granted : candidate (readRegister 0x1814) ≡ one (value 0)
@@ -93,7 +95,10 @@ pub record RoleRows : Type 0 where
   pub length-granted : watcher (query 4 retiredLength) ≡ one (partLength 0)
   pub readings-denied : watcher (query 3 readings) ≡ denied
   pub download-denied : candidate (openDownload 1) ≡ denied
+  pub download-write-alone : candidate (openDownload 4) ≡ denied
   pub download-granted : candidate (openDownload 3) ≡ one (partLength 0)
+  pub portion-granted : answeredIn (called opened role.Candidate (openDownload 3)) role.Candidate (query 3 (portion 0 0)) ≡ one (part [])
+  pub portion-write-alone : answeredIn (called opened role.Examiner (openDownload 4)) role.Candidate (query 4 (portionLength 0 0)) ≡ denied
   -- "reading 02, 04 or 0C needs both, as it clears"
   pub clear-read-alone : candidate (readRegister 0x1802) ≡ denied
   pub clear-polling : candidate (readRegister 0x1804) ≡ denied

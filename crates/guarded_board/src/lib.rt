@@ -19,7 +19,7 @@ ghost use Rattle.isolation.specs.Calls.{none, words};
 ghost use Rattle.access_control.specs.Guarding.{shownFrame, shown, guarded, answerTo, boardAfter, memoryAfter};
 ghost use Rattle.guarded_board.specs.Answers.{levelAnswerOf};
 
-// The answer of a tick: the frames that the role is shown.
+// The board after a tick, and the frames that the role is shown.
 pub struct Ticked {
     pub board: GuardedBoard,
     pub frames: Frames,
@@ -77,8 +77,8 @@ pub fn tick(g: GuardedBoard, role: Role, setpoints: &[u32]) -> Ticked
 {
     let board = g.board;
     let rights = g.rights;
-    let lengths = access_control::check_length(setpoints.len(), board.n as usize * 64);
-    let verdict = access_control::check_permission(lengths, permissions::may_tick(role));
+    let length_verdict = access_control::check_length(setpoints.len(), board.n as usize * 64);
+    let verdict = access_control::check_permission(length_verdict, permissions::may_tick(role));
     match verdict {
         Verdict::Allowed => {
             let ticked = board::tick(board, setpoints);
@@ -104,8 +104,8 @@ pub fn event(g: GuardedBoard, role: Role, readbacks: &mut [u32], code: u8) -> Wr
 {
     let board = g.board;
     let rights = g.rights;
-    let lengths = access_control::check_length(readbacks.len(), board.m as usize * 8);
-    let verdict = access_control::check_permission(lengths, permissions::may_tick(role));
+    let length_verdict = access_control::check_length(readbacks.len(), board.m as usize * 8);
+    let verdict = access_control::check_permission(length_verdict, permissions::may_tick(role));
     match verdict {
         Verdict::Allowed => {
             let written = board::event(board, readbacks, code);

@@ -34,9 +34,9 @@ pub fn write_setpoint(
 {
     let board = g.board;
     let rights = g.rights;
-    let lengths = access_control::check_length(setpoints.len(), board.n as usize * 64);
+    let length_verdict = access_control::check_length(setpoints.len(), board.n as usize * 64);
     let verdict = access_control::check_permission(
-        access_control::check_channel(lengths, number),
+        access_control::check_channel(length_verdict, number),
         rights.may_write(role, number),
     );
     match verdict {
@@ -122,9 +122,9 @@ pub fn reply(
 {
     let board = g.board;
     let rights = g.rights;
-    let lengths = access_control::check_length(readbacks.len(), board.m as usize * 8);
+    let length_verdict = access_control::check_length(readbacks.len(), board.m as usize * 8);
     let verdict = access_control::check_permission(
-        access_control::check_channel(lengths, number),
+        access_control::check_channel(length_verdict, number),
         rights.may_write(role, number),
     );
     match verdict {

@@ -1,4 +1,4 @@
-// The calls that read of a channel by its number, by role: retired readbacks, the readings of the last send, and downloads. What is lent, the number, whether the role may read, then the board's own call.
+// The calls that read of a channel by its number, by role: retired readbacks, the readings of the last send, and downloads. What is lent, the number, whether the role may read, then the board's own call; a part is empty where any of these refuses it, so there the right alone is asked.
 pub mod download;
 
 use access_control::GuardedBoard;

@@ -1,4 +1,4 @@
-// Register write and read by role: what the address names, whether the role may, then the board's own call.
+// Register write and read by role: what is lent, what the address names, whether the role may, then the board's own call.
 use access_control::GuardedBoard;
 use access_control::Written;
 use address_map::Region;
@@ -55,9 +55,9 @@ pub fn write_register(
     let board = g.board;
     let rights = g.rights;
     let region = address_map::decode_address(address);
-    let lengths = access_control::check_length(readbacks.len(), board.m as usize * 8);
+    let length_verdict = access_control::check_length(readbacks.len(), board.m as usize * 8);
     let verdict = access_control::check_permission(
-        access_control::check_address(lengths, region),
+        access_control::check_address(length_verdict, region),
         may_write(rights, role, region),
     );
     match verdict {

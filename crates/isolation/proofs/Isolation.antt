@@ -100,7 +100,7 @@ module _ (n m : ℕ) (s r : List ℕ) (e : openAnswer n m (length s) (length r) 
   unfolding state.opened
   good-opening = subst Good (sym open-world) (record { four = refl; sets = open-fits .2; reads = open-fits .3 })
 
-  view-opening : (c : ℕ) → Number c → view c (opening n m s r) ≡ oneChannelAt c n m s r
+  pub view-opening : (c : ℕ) → Number c → view c (opening n m s r) ≡ oneChannelAt c n m s r
   unfolding state.opened
   view-opening c h =
       ap (view c) open-world ∙ ap (withChannel (oneChannelAt c n m s r)) (open-channel n m c h)

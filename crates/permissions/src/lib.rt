@@ -49,7 +49,7 @@ impl BoardRights {
     pub fn none() -> BoardRights
         ensures { λ r. ⌜ r ≡ noBoardRights ⌝ }
     {
-        let channel = none();
+        let channel = no_rights();
         BoardRights {
             first: channel,
             second: channel,
@@ -58,7 +58,7 @@ impl BoardRights {
         }
     }
 
-    // Those at a channel; at a number that is no channel's, none.
+    // Those at a channel; at a number that is no channel's, none for candidate and watcher.
     pub fn at(self, number: u32) -> ChannelRights
         ensures { λ r. ⌜ r ≡ rightsAt self number ⌝ }
     {
@@ -67,7 +67,7 @@ impl BoardRights {
             2 => self.second,
             3 => self.third,
             4 => self.fourth,
-            _ => none(),
+            _ => no_rights(),
         }
     }
 
@@ -116,7 +116,7 @@ fn reads_register(rights: Rights, offset: u16) -> bool
     rights.read
 }
 
-fn none() -> ChannelRights
+fn no_rights() -> ChannelRights
     ensures { λ r. ⌜ r ≡ noRights ⌝ }
 {
     let rights = Rights {

@@ -4,8 +4,8 @@ use borrow.Author.Needs.{needs}
 use Rattle.permissions.proofs.BoardRights.at.Statement.{statement}
 use Rattle.permissions.proofs.BoardRights.at.Tie as tie
 
-none-requires : tie.Need-none-requires
-none-requires c κs = search needs
+no-rights-requires : tie.Need-no-rights-requires
+no-rights-requires c κs = search needs
 
 returns : tie.Need-returns
 returns c =
@@ -26,7 +26,7 @@ returns-4 c =
 returns-5 : tie.Need-returns-5
 returns-5 c =
     simp (
-      c .none .ensures,
+      c .no-rights .ensures,
       ne-eqb _ _ (c .before .match .rest .0 .0 .0 .1),
       ne-eqb _ _ (c .before .match .rest .0 .0 .1),
       ne-eqb _ _ (c .before .match .rest .0 .1),
@@ -34,4 +34,4 @@ returns-5 c =
     )
 
 pub at-spec : {M : Type 1} → statement M
-at-spec = tie.close (tie.spec none-requires returns returns-2 returns-3 returns-4 returns-5)
+at-spec = tie.close (tie.spec no-rights-requires returns returns-2 returns-3 returns-4 returns-5)

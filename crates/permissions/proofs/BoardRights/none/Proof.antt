@@ -3,11 +3,11 @@ use borrow.Author.Needs.{needs}
 use Rattle.permissions.proofs.BoardRights.none.Statement.{statement}
 use Rattle.permissions.proofs.BoardRights.none.Tie as tie
 
-none-requires : tie.Need-none-requires
-none-requires c κs = search needs
+no-rights-requires : tie.Need-no-rights-requires
+no-rights-requires c κs = search needs
 
 returns : tie.Need-returns
-returns c = simp (c .none .ensures)
+returns c = simp (c .no-rights .ensures)
 
 pub none-spec : {M : Type 1} → statement M
-none-spec = tie.close (tie.spec none-requires returns)
+none-spec = tie.close (tie.spec no-rights-requires returns)
