@@ -12,7 +12,7 @@ ghost use Rattle.refusal.specs.Refusals.{verdictNumber};
 ghost use Rattle.address_map.specs.Addresses.{namedOf};
 ghost use Rattle.channel.specs.Calls.{then};
 ghost use Rattle.channel.specs.OneChannel.{lengthRefusal};
-ghost use Rattle.access_control.specs.Guarding.{unmappedRefusal, addressRefusal, channelRefusal, permissionDenied};
+ghost use Rattle.access_control.specs.Guarding.{unmappedRefusal, addressRefusal, channelRefusal, permissionDenied, guarded};
 
 // No call changes the rights.
 pub struct GuardedBoard {
@@ -24,6 +24,21 @@ pub struct GuardedBoard {
 pub struct Written {
     pub board: GuardedBoard,
     pub outcome: Outcome,
+}
+
+// The board after its own call, with its rights again.
+pub fn with_rights(after: board_state::Written, rights: BoardRights) -> Written
+    ensures { λ r. ⌜ (r .board ≡ guarded (after .board) rights) × (r .outcome ≡ after .outcome) ⌝ }
+{
+    let board = after.board;
+    let outcome = after.outcome;
+    Written {
+        board: GuardedBoard {
+            board: board,
+            rights: rights,
+        },
+        outcome: outcome,
+    }
 }
 
 // 1, of a memory that is lent.

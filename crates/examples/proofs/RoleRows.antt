@@ -4,25 +4,20 @@ use Rattle.address_map.specs.Addresses.{named}
 use Rattle.board.specs.Calls as board-calls
 use Rattle.board_channels.specs.Calls as board-channels-calls
 use Rattle.board_downloads.specs.Calls as board-downloads-calls
-use Rattle.board_readings.specs.Calls as board-readings-calls
 use Rattle.board_registers.specs.Calls as board-registers-calls
 use Rattle.board_state.specs.Main as board-state-main
 use Rattle.board_state.specs.State as board-state-state
-use Rattle.board_ticks.specs.Ticks as board-ticks-ticks
 use Rattle.channel_core.specs.Behaviour as channel-core-behaviour
 use Rattle.channel_core.specs.State as channel-core-state
 use Rattle.channel.specs.Calls as channel-calls
 use Rattle.channel.specs.Downloads as channel-downloads
 use Rattle.channel_registers.specs.Calls as channel-registers-calls
 use Rattle.channel_replies.specs.Replying as channel-replies-replying
-use Rattle.channel_readings.specs.Measuring as channel-readings-measuring
 use Rattle.sequencer.specs.Playing as sequencer-playing
 use Rattle.command_frames.specs.Commanding as command-frames-commanding
 use Rattle.registers.specs.Map as registers-map
 use Rattle.readback.specs.Storing as readback-storing
 use Rattle.status.specs.Bits as status-bits
-use Rattle.status.specs.Latching as status-latching
-use Rattle.adc_words.specs.Positions as adc-words-positions
 use Rattle.frame.specs.Crc as frame-crc
 use Rattle.frame.specs.Frames as frame-frames
 use Rattle.register_map.specs.AccessRule as register-map-accessrule
@@ -31,7 +26,7 @@ use Rattle.access_control.specs.Guarding.{guardRefusal, guardedAnswer, guardedA
 use Rattle.examples.specs.RoleRows.{RoleRows}
 
 pub role-rows : RoleRows
-unfolding guardRefusal guardedAnswer guardedAfter guardedWords guardedStep answer after wordsAfter named board-calls.openRefusal board-calls.openBoard board-calls.openAnswer board-calls.tickChannel board-calls.tickFrame board-calls.tickBoard board-calls.tickBoardAnswer board-calls.eventBoardAt board-calls.eventWordsAt board-calls.eventBoards board-calls.eventParts board-calls.eventBoard board-calls.eventAnswer board-calls.eventWords board-calls.changedAt board-calls.userBoard board-calls.userAnswer board-channels-calls.setpointAnswer board-channels-calls.setpointWords board-channels-calls.setArmed board-channels-calls.armAnswer board-channels-calls.replyBoard board-channels-calls.replyAnswer board-channels-calls.replyWords board-channels-calls.retiredWords board-channels-calls.retiredAnswer board-channels-calls.retiredLength board-downloads-calls.openedBoard board-downloads-calls.openingAnswer board-downloads-calls.portionWords board-downloads-calls.portionAnswer board-downloads-calls.portionLength board-readings-calls.readingsAnswer board-registers-calls.writeBoard board-registers-calls.writeAnswer board-registers-calls.writeWords board-registers-calls.readBoard board-registers-calls.readAnswer board-state-main.mainWord board-state-main.mainStatus board-state-main.takenAt board-state-main.statusRead board-state-main.mainStored board-state-main.mainWritten board-state-main.mainValue board-state-main.mainRead board-state-main.levelOf board-state-state.opened board-ticks-ticks.channelTicks board-ticks-ticks.channelFrames board-ticks-ticks.channelFramesAt board-ticks-ticks.ticksBoard board-ticks-ticks.ticksRefused board-ticks-ticks.ticksFrames board-ticks-ticks.ticksFramesAt board-ticks-ticks.quietTicks channel-core-behaviour.started channel-core-behaviour.userChanged channel-core-behaviour.groupEnded channel-core-behaviour.groupWords channel-core-behaviour.endedIf channel-core-behaviour.endedWords channel-core-behaviour.startedIf channel-core-behaviour.resumedIf channel-core-behaviour.taggedIf channel-core-behaviour.resumedOn channel-core-behaviour.eventOf channel-core-behaviour.eventWords channel-core-behaviour.commanded channel-core-behaviour.commandWords channel-core-behaviour.dueOf channel-core-behaviour.tickOf channel-core-behaviour.tickAnswer channel-core-state.opened channel-core-state.reset channel-calls.setpointRefusal channel-calls.setpointAnswer channel-calls.setpointWords channel-calls.armedOf channel-calls.disarmedOf channel-calls.retiredWords channel-calls.retiredLength channel-calls.mainTaken channel-downloads.downloadOpened channel-downloads.portionWords channel-downloads.portionLength channel-registers-calls.registerRefusal channel-registers-calls.registerEffect channel-registers-calls.writtenOf channel-registers-calls.writtenAnswer channel-registers-calls.registerWords channel-registers-calls.writtenWords channel-registers-calls.readEffect channel-registers-calls.readValue channel-registers-calls.readOf channel-registers-calls.readAnswer channel-replies-replying.dispositionNow channel-replies-replying.replyAnswer channel-replies-replying.replyOf channel-replies-replying.replyWords channel-readings-measuring.measured channel-readings-measuring.readingsAnswer sequencer-playing.idled sequencer-playing.armed sequencer-playing.disarmed sequencer-playing.started sequencer-playing.resumed sequencer-playing.shortfall sequencer-playing.sentAs sequencer-playing.sentNext sequencer-playing.repeated sequencer-playing.advancing sequencer-playing.repeating sequencer-playing.resuming sequencer-playing.ticked sequencer-playing.answered sequencer-playing.groupEnded sequencer-playing.tagged command-frames-commanding.stored command-frames-commanding.loaded command-frames-commanding.commandFrame command-frames-commanding.ticked command-frames-commanding.groupEnded command-frames-commanding.dropped command-frames-commanding.takes command-frames-commanding.received registers-map.stored registers-map.loaded registers-map.flips registers-map.groupEnded readback-storing.storedWord readback-storing.dispositionOf status-bits.wordOfBits status-latching.latched adc-words-positions.withReply adc-words-positions.arrived frame-crc.reduced frame-crc.bitIn frame-crc.divided frame-crc.crcOf frame-crc.bitsIn frame-frames.crcFor frame-frames.encoded frame-frames.read frame-frames.crcRight register-map-accessrule.channelAccess register-map-accessrule.mainAccess register-map-accessrule.entryAccess
+unfolding guardRefusal guardedAnswer guardedAfter guardedWords guardedStep answer after wordsAfter named board-calls.openRefusal board-calls.openBoard board-calls.tickChannel board-calls.tickFrame board-calls.tickBoard board-calls.tickBoardAnswer board-calls.eventAnswer board-calls.changedAt board-calls.userBoard board-calls.userAnswer board-channels-calls.setpointAnswer board-channels-calls.setArmed board-channels-calls.armAnswer board-channels-calls.replyAnswer board-channels-calls.retiredWords board-channels-calls.retiredAnswer board-channels-calls.retiredLength board-downloads-calls.openedBoard board-downloads-calls.openingAnswer board-downloads-calls.portionWords board-downloads-calls.portionAnswer board-downloads-calls.portionLength board-registers-calls.writeBoard board-registers-calls.writeAnswer board-registers-calls.writeWords board-registers-calls.readAnswer board-state-main.mainWord board-state-main.mainStatus board-state-main.mainValue board-state-main.levelOf board-state-state.opened channel-core-behaviour.userChanged channel-core-behaviour.groupWords channel-core-behaviour.endedWords channel-core-behaviour.commandWords channel-core-behaviour.tickOf channel-core-behaviour.tickAnswer channel-core-state.opened channel-calls.setpointRefusal channel-calls.setpointAnswer channel-calls.armedOf channel-calls.retiredWords channel-downloads.downloadOpened channel-downloads.portionWords channel-registers-calls.registerRefusal channel-registers-calls.registerEffect channel-registers-calls.writtenOf channel-registers-calls.writtenAnswer channel-registers-calls.registerWords channel-registers-calls.writtenWords channel-registers-calls.readValue channel-registers-calls.readAnswer channel-replies-replying.dispositionNow channel-replies-replying.replyAnswer sequencer-playing.armed sequencer-playing.ticked command-frames-commanding.stored command-frames-commanding.commandFrame command-frames-commanding.ticked command-frames-commanding.takes registers-map.loaded readback-storing.dispositionOf status-bits.wordOfBits frame-crc.crcOf frame-frames.crcFor frame-frames.encoded frame-frames.read register-map-accessrule.channelAccess register-map-accessrule.mainAccess
 role-rows =
     record {
       write-none = refl;

@@ -34,16 +34,7 @@ pub enum InterruptLevel {
 pub fn open(n: u32, m: u32, rights: BoardRights, setpoints: &[u32], readbacks: &[u32]) -> Written
     ensures { λ r. ⌜ (r .board ≡ guarded (openBoard n m (length (now (setpoints .entry))) (length (now (readbacks .entry)))) rights) × (outcomeOf (r .outcome) ≡ openAnswer n m (length (now (setpoints .entry))) (length (now (readbacks .entry)))) ⌝ }
 {
-    let opened = board::open(n, m, setpoints, readbacks);
-    let board = opened.board;
-    let outcome = opened.outcome;
-    Written {
-        board: GuardedBoard {
-            board: board,
-            rights: rights,
-        },
-        outcome: outcome,
-    }
+    access_control::with_rights(board::open(n, m, setpoints, readbacks), rights)
 }
 
 // A channel's frame as the role is shown it.
@@ -107,18 +98,10 @@ pub fn event(g: GuardedBoard, role: Role, readbacks: &mut [u32], code: u8) -> Wr
     let length_verdict = access_control::check_length(readbacks.len(), board.m as usize * 8);
     let verdict = access_control::check_permission(length_verdict, permissions::may_tick(role));
     match verdict {
-        Verdict::Allowed => {
-            let written = board::event(board, readbacks, code);
-            let next = written.board;
-            let outcome = written.outcome;
-            Written {
-                board: GuardedBoard {
-                    board: next,
-                    rights: rights,
-                },
-                outcome: outcome,
-            }
-        }
+        Verdict::Allowed => access_control::with_rights(
+            board::event(board, readbacks, code),
+            rights,
+        ),
         Verdict::Refused(reason) => Written {
             board: g,
             outcome: Outcome::Refused(reason),
@@ -136,18 +119,7 @@ pub fn change_user(g: GuardedBoard, role: Role, user: u32) -> Written
         permissions::is_examiner(role),
     );
     match verdict {
-        Verdict::Allowed => {
-            let written = board::change_user(board, user);
-            let next = written.board;
-            let outcome = written.outcome;
-            Written {
-                board: GuardedBoard {
-                    board: next,
-                    rights: rights,
-                },
-                outcome: outcome,
-            }
-        }
+        Verdict::Allowed => access_control::with_rights(board::change_user(board, user), rights),
         Verdict::Refused(reason) => Written {
             board: g,
             outcome: Outcome::Refused(reason),

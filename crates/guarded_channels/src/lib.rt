@@ -3,20 +3,35 @@ use access_control::GuardedBoard;
 use access_control::Written;
 use channel_core::Outcome;
 use channel_replies::Receipt;
+use permissions::BoardRights;
 use permissions::Role;
 use refusal::Verdict;
 ghost use mathlib.Core.Path.{_≡_};
+ghost use mathlib.Core.Bool.{cond, not};
+ghost use Rattle.refusal.specs.Refusals.{verdictNumber};
 ghost use Rattle.channel_core.specs.Answers.{outcomeOf};
 ghost use Rattle.channel_replies.specs.Answers.{receiptOf};
+ghost use Rattle.channel.specs.Calls.{then};
+ghost use Rattle.permissions.specs.Rights.{rightsAt, mayWrite};
 ghost use Rattle.board.specs.Answers.{one};
 ghost use Rattle.isolation.specs.Calls as call;
 ghost use Rattle.isolation.specs.Calls.{none, words};
-ghost use Rattle.access_control.specs.Guarding.{answerTo, boardAfter, memoryAfter};
+ghost use Rattle.access_control.specs.Guarding.{channelRefusal, permissionDenied, answerTo, boardAfter, memoryAfter};
 
 // The board after a reply, and what became of it.
 pub struct Received {
     pub board: GuardedBoard,
     pub receipt: Receipt,
+}
+
+// Whether a call that writes to the named channel is refused before it is made: by this verdict, the number, then the right.
+fn check_writing(verdict: Verdict, rights: BoardRights, role: Role, number: u32) -> Verdict
+    ensures { λ r. ⌜ verdictNumber r ≡ then (then (verdictNumber verdict) (channelRefusal number)) (cond (not (mayWrite (rightsAt rights number) role)) permissionDenied 0) ⌝ }
+{
+    access_control::check_permission(
+        access_control::check_channel(verdict, number),
+        rights.may_write(role, number),
+    )
 }
 
 // The board stays as it is.
@@ -35,10 +50,7 @@ pub fn write_setpoint(
     let board = g.board;
     let rights = g.rights;
     let length_verdict = access_control::check_length(setpoints.len(), board.n as usize * 64);
-    let verdict = access_control::check_permission(
-        access_control::check_channel(length_verdict, number),
-        rights.may_write(role, number),
-    );
+    let verdict = check_writing(length_verdict, rights, role, number);
     match verdict {
         Verdict::Allowed => board_channels::write_setpoint(
             board,
@@ -58,23 +70,9 @@ pub fn arm(g: GuardedBoard, role: Role, number: u32) -> Written
 {
     let board = g.board;
     let rights = g.rights;
-    let verdict = access_control::check_permission(
-        access_control::check_channel(Verdict::Allowed, number),
-        rights.may_write(role, number),
-    );
+    let verdict = check_writing(Verdict::Allowed, rights, role, number);
     match verdict {
-        Verdict::Allowed => {
-            let armed = board_channels::arm(board, number);
-            let next = armed.board;
-            let outcome = armed.outcome;
-            Written {
-                board: GuardedBoard {
-                    board: next,
-                    rights: rights,
-                },
-                outcome: outcome,
-            }
-        }
+        Verdict::Allowed => access_control::with_rights(board_channels::arm(board, number), rights),
         Verdict::Refused(reason) => Written {
             board: g,
             outcome: Outcome::Refused(reason),
@@ -87,23 +85,12 @@ pub fn disarm(g: GuardedBoard, role: Role, number: u32) -> Written
 {
     let board = g.board;
     let rights = g.rights;
-    let verdict = access_control::check_permission(
-        access_control::check_channel(Verdict::Allowed, number),
-        rights.may_write(role, number),
-    );
+    let verdict = check_writing(Verdict::Allowed, rights, role, number);
     match verdict {
-        Verdict::Allowed => {
-            let disarmed = board_channels::disarm(board, number);
-            let next = disarmed.board;
-            let outcome = disarmed.outcome;
-            Written {
-                board: GuardedBoard {
-                    board: next,
-                    rights: rights,
-                },
-                outcome: outcome,
-            }
-        }
+        Verdict::Allowed => access_control::with_rights(
+            board_channels::disarm(board, number),
+            rights,
+        ),
         Verdict::Refused(reason) => Written {
             board: g,
             outcome: Outcome::Refused(reason),
@@ -123,10 +110,7 @@ pub fn reply(
     let board = g.board;
     let rights = g.rights;
     let length_verdict = access_control::check_length(readbacks.len(), board.m as usize * 8);
-    let verdict = access_control::check_permission(
-        access_control::check_channel(length_verdict, number),
-        rights.may_write(role, number),
-    );
+    let verdict = check_writing(length_verdict, rights, role, number);
     match verdict {
         Verdict::Allowed => {
             let received = board_channels::reply(board, readbacks, number, frame);

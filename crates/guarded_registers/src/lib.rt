@@ -61,18 +61,10 @@ pub fn write_register(
         may_write(rights, role, region),
     );
     match verdict {
-        Verdict::Allowed => {
-            let written = board_registers::write_register(board, readbacks, address, value);
-            let next = written.board;
-            let outcome = written.outcome;
-            Written {
-                board: GuardedBoard {
-                    board: next,
-                    rights: rights,
-                },
-                outcome: outcome,
-            }
-        }
+        Verdict::Allowed => access_control::with_rights(
+            board_registers::write_register(board, readbacks, address, value),
+            rights,
+        ),
         Verdict::Refused(reason) => Written {
             board: g,
             outcome: Outcome::Refused(reason),

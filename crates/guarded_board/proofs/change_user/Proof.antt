@@ -1,6 +1,8 @@
 -- `guarded_board::change_user` meets its contract: what is checked before the call, then the board's own. Assumes nothing.
 use mathlib.Core.Path.{ap, _∙_}
 use Rattle.board_state.specs.declared.Board.{Board}
+use Rattle.channel_core.specs.declared.Outcome.{Outcome}
+use Rattle.channel_core.specs.Answers.{outcomeOf}
 use Rattle.board.specs.Answers.{one}
 use Rattle.isolation.specs.Calls.{Call, changeUser, none, answer, after}
 use Rattle.access_control.specs.Guarding.{guardRefusal, guarded}
@@ -20,6 +22,9 @@ enum-told c = search needs
 
 change-user-requires : tie.Need-change-user-requires
 change-user-requires c κs = search needs
+
+with-rights-requires : tie.Need-with-rights-requires
+with-rights-requires c κs = search needs
 
 enum-known-verdict : tie.Need-enum-known-verdict
 enum-known-verdict c = search needs
@@ -42,8 +47,8 @@ returns c =
     let z = c .before .before in
     let k = c .before .before .before .before in
     let a = given k .args in (
-      ap (λ (b : Board). guarded b (a .g .rights)) (w .0) ∙ allowed-board (a .g) (a .role) (call k) (none) (decides k) (z .enum-told .given .1),
-      ap one (w .1) ∙ allowed-answer (a .g) (a .role) (call k) (none) (decides k) (z .enum-told .given .1),
+      c .with-rights .ensures .0 ∙ ap (λ (b : Board). guarded b (a .g .rights)) (w .0) ∙ allowed-board (a .g) (a .role) (call k) (none) (decides k) (z .enum-told .given .1),
+      ap (λ (o : Outcome). one (outcomeOf o)) (c .with-rights .ensures .1) ∙ ap one (w .1) ∙ allowed-answer (a .g) (a .role) (call k) (none) (decides k) (z .enum-told .given .1),
     )
 
 returns-2 : tie.Need-returns-2
@@ -62,6 +67,7 @@ change-user-spec =
     check-permission-requires
     enum-told
     change-user-requires
+    with-rights-requires
     enum-known-verdict
     returns
     returns-2)

@@ -5,6 +5,8 @@ use mathlib.Core.Bool.{cond, not}
 use lib.ListN.{length}
 use denote.Ref.{now}
 use Rattle.board_state.specs.declared.Board.{Board}
+use Rattle.channel_core.specs.declared.Outcome.{Outcome}
+use Rattle.channel_core.specs.Answers.{outcomeOf}
 use Rattle.board.specs.Answers.{one}
 use Rattle.channel.specs.Calls.{then}
 use Rattle.channel.specs.OneChannel.{lengthRefusal}
@@ -38,6 +40,9 @@ enum-told c = search needs
 event-requires : tie.Need-event-requires
 event-requires c κs = search needs
 
+with-rights-requires : tie.Need-with-rights-requires
+with-rights-requires c κs = search needs
+
 enum-known-verdict : tie.Need-enum-known-verdict
 enum-known-verdict c = search needs
 
@@ -65,8 +70,8 @@ returns c =
     let z = c .before .before .before .before .before in
     let k = c .before .before .before .before .before .before .before in
     let a = given k .args in (
-      ap (λ (b : Board). guarded b (a .g .rights)) (w .0) ∙ allowed-board (a .g) (a .role) (call k) (words (now (a .readbacks))) (decides k) (z .enum-told .given .1),
-      ap one (w .1) ∙ allowed-answer (a .g) (a .role) (call k) (words (now (a .readbacks))) (decides k) (z .enum-told .given .1),
+      c .with-rights .ensures .0 ∙ ap (λ (b : Board). guarded b (a .g .rights)) (w .0) ∙ allowed-board (a .g) (a .role) (call k) (words (now (a .readbacks))) (decides k) (z .enum-told .given .1),
+      ap (λ (o : Outcome). one (outcomeOf o)) (c .with-rights .ensures .1) ∙ ap one (w .1) ∙ allowed-answer (a .g) (a .role) (call k) (words (now (a .readbacks))) (decides k) (z .enum-told .given .1),
       w .2 ∙ allowed-words (a .g) (a .role) (call k) ((now (a .readbacks))) (decides k) (z .enum-told .given .1),
     )
 
@@ -90,6 +95,7 @@ event-spec =
     check-permission-requires
     enum-told
     event-requires
+    with-rights-requires
     enum-known-verdict
     same-length
     returns

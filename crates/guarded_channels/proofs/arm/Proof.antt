@@ -1,6 +1,8 @@
 -- `guarded_channels::arm` meets its contract: what is checked before the call, then the board's own. Assumes nothing.
 use mathlib.Core.Path.{ap, _∙_}
 use Rattle.board_state.specs.declared.Board.{Board}
+use Rattle.channel_core.specs.declared.Outcome.{Outcome}
+use Rattle.channel_core.specs.Answers.{outcomeOf}
 use Rattle.board.specs.Answers.{one}
 use Rattle.isolation.specs.Calls.{Call, arm, none, answer, after}
 use Rattle.access_control.specs.Guarding.{guardRefusal, guarded}
@@ -9,14 +11,8 @@ use borrow.Author.Needs.{needs}
 use Rattle.guarded_channels.proofs.arm.Statement.{statement}
 use Rattle.guarded_channels.proofs.arm.Tie as tie
 
-check-channel-requires : tie.Need-check-channel-requires
-check-channel-requires c κs = search needs
-
-may-write-requires : tie.Need-may-write-requires
-may-write-requires c κs = search needs
-
-check-permission-requires : tie.Need-check-permission-requires
-check-permission-requires c κs = search needs
+check-writing-requires : tie.Need-check-writing-requires
+check-writing-requires c κs = search needs
 
 enum-told : tie.Need-enum-told
 enum-told c = search needs
@@ -24,19 +20,22 @@ enum-told c = search needs
 arm-requires : tie.Need-arm-requires
 arm-requires c κs = search needs
 
+with-rights-requires : tie.Need-with-rights-requires
+with-rights-requires c κs = search needs
+
 enum-known-verdict : tie.Need-enum-known-verdict
 enum-known-verdict c = search needs
 
-module _ (c : tie.After-check-permission) where
+module _ (c : tie.After-check-writing) where
   abbrev given : tie.Start
-  given = c .before .before .before .before .before
+  given = c .before .before .before
 
   abbrev call : Call
   call = arm (given .args .number)
 
-  decides : Decides (given .args .g) (given .args .role) call (none) (c .check-permission .result)
+  decides : Decides (given .args .g) (given .args .role) call (none) (c .check-writing .result)
   unfolding guardRefusal
-  decides = simp (c .check-permission .ensures, c .before .may-write .ensures, c .before .before .check-channel .ensures)
+  decides = simp (c .check-writing .ensures)
 
 returns : tie.Need-returns
 unfolding answer after
@@ -45,8 +44,8 @@ returns c =
     let z = c .before .before in
     let k = c .before .before .before .before in
     let a = given k .args in (
-      ap (λ (b : Board). guarded b (a .g .rights)) (w .0) ∙ allowed-board (a .g) (a .role) (call k) (none) (decides k) (z .enum-told .given .1),
-      ap one (w .1) ∙ allowed-answer (a .g) (a .role) (call k) (none) (decides k) (z .enum-told .given .1),
+      c .with-rights .ensures .0 ∙ ap (λ (b : Board). guarded b (a .g .rights)) (w .0) ∙ allowed-board (a .g) (a .role) (call k) (none) (decides k) (z .enum-told .given .1),
+      ap (λ (o : Outcome). one (outcomeOf o)) (c .with-rights .ensures .1) ∙ ap one (w .1) ∙ allowed-answer (a .g) (a .role) (call k) (none) (decides k) (z .enum-told .given .1),
     )
 
 returns-2 : tie.Need-returns-2
@@ -61,11 +60,10 @@ pub arm-spec : {M : Type 1} → statement M
 arm-spec =
     tie.close
     (tie.spec
-    check-channel-requires
-    may-write-requires
-    check-permission-requires
+    check-writing-requires
     enum-told
     arm-requires
+    with-rights-requires
     enum-known-verdict
     returns
     returns-2)

@@ -2,6 +2,8 @@
 use mathlib.Core.Path.{ap, _∙_}
 use denote.Ref.{now}
 use Rattle.board_state.specs.declared.Board.{Board}
+use Rattle.channel_core.specs.declared.Outcome.{Outcome}
+use Rattle.channel_core.specs.Answers.{outcomeOf}
 use Rattle.board.specs.Answers.{one}
 use Rattle.isolation.specs.Calls.{Call, writeRegister, words, answer, after, wordsAfter}
 use Rattle.access_control.specs.Guarding.{guardRefusal, guarded}
@@ -37,6 +39,9 @@ enum-told c = search needs
 write-register-requires : tie.Need-write-register-requires
 write-register-requires c κs = search needs
 
+with-rights-requires : tie.Need-with-rights-requires
+with-rights-requires c κs = search needs
+
 enum-known-verdict : tie.Need-enum-known-verdict
 enum-known-verdict c = search needs
 
@@ -50,25 +55,20 @@ module _ (c : tie.After-check-permission) where
   abbrev call : Call
   call = writeRegister (given .args .address) (given .args .value)
 
-  -- 1, 3, then 13
   decides : Decides (given .args .g) (given .args .role) call (words (now (given .args .readbacks))) (c .check-permission .result)
   unfolding guardRefusal
-  decides =
-      let m = c .before in
-      let a = m .before in
-      let d = a .before .before .before in
-      simp (c .check-permission .ensures, m .may-write .ensures, a .check-address .ensures, a .before .check-length .ensures, d .decode-address .ensures)
+  decides = simp (c .check-permission .ensures, c .before .may-write .ensures, c .before .before .check-address .ensures, c .before .before .before .check-length .ensures, c .before .before .before .before .before .decode-address .ensures)
 
 returns : tie.Need-returns
 unfolding answer after wordsAfter
 returns c =
     let w = c .before .before .before .write-register .ensures in
     let z = c .before .before .before .before .before in
-    let k = z .before .before in
+    let k = c .before .before .before .before .before .before .before in
     let a = given k .args in (
-      ap (λ (b : Board). guarded b (a .g .rights)) (w .0) ∙ allowed-board (a .g) (a .role) (call k) (words (now (a .readbacks))) (decides k) (z .enum-told .given .1),
-      ap one (w .1) ∙ allowed-answer (a .g) (a .role) (call k) (words (now (a .readbacks))) (decides k) (z .enum-told .given .1),
-      w .2 ∙ allowed-words (a .g) (a .role) (call k) (now (a .readbacks)) (decides k) (z .enum-told .given .1),
+      c .with-rights .ensures .0 ∙ ap (λ (b : Board). guarded b (a .g .rights)) (w .0) ∙ allowed-board (a .g) (a .role) (call k) (words (now (a .readbacks))) (decides k) (z .enum-told .given .1),
+      ap (λ (o : Outcome). one (outcomeOf o)) (c .with-rights .ensures .1) ∙ ap one (w .1) ∙ allowed-answer (a .g) (a .role) (call k) (words (now (a .readbacks))) (decides k) (z .enum-told .given .1),
+      w .2 ∙ allowed-words (a .g) (a .role) (call k) ((now (a .readbacks))) (decides k) (z .enum-told .given .1),
     )
 
 returns-2 : tie.Need-returns-2
@@ -77,7 +77,7 @@ returns-2 c =
     let a = given k .args in (
       refused-board (a .g) (a .role) (call k) (words (now (a .readbacks))) (decides k) _ (c .before .verdict .given .1),
       refused-answer (a .g) (a .role) (call k) (words (now (a .readbacks))) (decides k) _ (c .before .verdict .given .1),
-      refused-words (a .g) (a .role) (call k) (now (a .readbacks)) (decides k) _ (c .before .verdict .given .1),
+      refused-words (a .g) (a .role) (call k) ((now (a .readbacks))) (decides k) _ (c .before .verdict .given .1),
     )
 
 pub write-register-spec : {M : Type 1} → statement M
@@ -93,6 +93,7 @@ write-register-spec =
     check-permission-requires
     enum-told
     write-register-requires
+    with-rights-requires
     enum-known-verdict
     same-length
     returns
