@@ -115,7 +115,7 @@ impl Board {
 
     /// Refusals 1, 3, 13, 4, 10, 5.
     pub fn write(&mut self, role: Role, address: u32, value: u16, readbacks: &mut [u32]) -> Result<(), u8> {
-        self.readbacks_fit(readbacks).inspect_err(|_| self.tally_write_refused(address, value))?;
+        self.readbacks_fit(readbacks).inspect_err(|_| self.tally_write_refused(role, address, value))?;
         let place = place(address)?;
         self.may_write_register(role, place)?;
         check_way(place, true).inspect_err(|_| self.tally_missing_written(address))?;
@@ -247,10 +247,11 @@ impl Board {
     /// Refusals 1, 13, of the whole tick. "A tick answers with each channel's frame or none." Those that the role is shown go
     /// to `show`, with their channels (0–3). Request 9: "a frame that a tick doesn't show still counts as sent".
     pub fn tick(&mut self, role: Role, setpoints: &[u32], mut show: impl FnMut(usize, u64)) -> Result<(), u8> {
-        self.setpoints_fit(setpoints).inspect_err(|_| self.tally_tick_refused())?;
+        self.setpoints_fit(setpoints).inspect_err(|_| self.tally_tick_refused(role))?;
         may_run(role)?;
         self.now += 1;
         for c in 0..4 {
+            self.tally.is_hidden = !self.shows(role, c);
             let command = if self.ch[c].waiting.is_some() { self.tick_command(c) } else { None };
             let setpoint = if self.ch[c].function.is_some() { self.tick_channel(c, setpoints) } else { None };
             // never both: what is due leaves on the next tick; it became due on an idle channel, by D0 or Group End, and a
@@ -260,12 +261,13 @@ impl Board {
                 show(c, frame);
             }
         }
+        self.tally.is_hidden = false;
         Ok(())
     }
 
     /// Refusals 1, 13. "Event registers keep 9 bits: D8 active, D7–D0 code."
     pub fn event(&mut self, role: Role, code: u8, readbacks: &mut [u32]) -> Result<(), u8> {
-        self.readbacks_fit(readbacks).inspect_err(|_| self.tally_event_refused(code))?;
+        self.readbacks_fit(readbacks).inspect_err(|_| self.tally_event_refused(role, code))?;
         may_run(role)?;
         self.tally.add(Did::event_came);
         // "D3 an event came"

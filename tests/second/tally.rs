@@ -220,14 +220,18 @@ pub struct Tally {
     pub crc_right: Vec<u32>,
     /// And those whose CRC it told to be wrong.
     pub crc_wrong: Vec<u32>,
+    /// What happens now is shown to nobody, and not counted.
+    pub is_hidden: bool,
 }
 
 impl Tally {
     pub fn new() -> Tally {
-        Tally { counts: vec![0; DID.len()], crc_right: Vec::new(), crc_wrong: Vec::new() }
+        Tally { counts: vec![0; DID.len()], crc_right: Vec::new(), crc_wrong: Vec::new(), is_hidden: false }
     }
     pub fn add(&mut self, d: Did) {
-        self.counts[d as usize] += 1;
+        if !self.is_hidden {
+            self.counts[d as usize] += 1;
+        }
     }
     pub fn join(&mut self, other: &Tally) {
         self.counts.iter_mut().zip(&other.counts).for_each(|(a, b)| *a += b);

@@ -159,9 +159,10 @@ impl Board {
         if count == 0 || self.setpoints_fit(setpoints).and(may_run(role)).is_err() {
             return;
         }
-        let due = self.ch.iter().filter(|ch| ch.waiting.is_some_and(|w| w.due.is_some())).count();
+        let is_due = |c: &usize| self.ch[*c].waiting.is_some_and(|w| w.due.is_some());
+        let due = (0..4).filter(|c| self.shows(role, *c)).filter(is_due).count();
         self.tally_if(due > 1, Did::command_on_two_channels_at_once);
-        for c in 0..4 {
+        for c in (0..4).filter(|c| self.shows(role, *c)).collect::<Vec<_>>() {
             let ch = &self.ch[c];
             let Some(waiting) = ch.waiting.filter(|_| count as u64 >= MANY) else { continue };
             let is_setpoint_due = ch.function.as_ref().is_some_and(|f| f.due <= self.now + count as u64);

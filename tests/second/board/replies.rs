@@ -35,7 +35,7 @@ impl Board {
 
     /// Refusals 1, 2, 13, 7.
     pub fn reply(&mut self, role: Role, c: u32, reply: u64, readbacks: &mut [u32]) -> Result<Reply, u8> {
-        self.readbacks_fit(readbacks).inspect_err(|_| self.tally_reply_refused(c, reply))?;
+        self.readbacks_fit(readbacks).inspect_err(|_| self.tally_reply_refused(role, c, reply))?;
         let c = Board::channel(c)?;
         self.may_write(role, c)?;
         if badly_framed(reply) {
@@ -69,11 +69,12 @@ impl Board {
         Ok(answer)
     }
 
-    /// A reply that is refused 1. One to no channel or badly framed would be refused with right lengths too, and takes no
-    /// place either way.
-    fn tally_reply_refused(&mut self, c: u32, reply: u64) {
+    /// A reply that is refused 1. One to no channel, badly framed or without the right would be refused with right lengths
+    /// too, and takes no place either way.
+    fn tally_reply_refused(&mut self, role: Role, c: u32, reply: u64) {
         self.tally.add(Did::reply_refused_1);
-        if let (Ok(c), false) = (Board::channel(c), badly_framed(reply)) {
+        let named = Board::channel(c).ok().filter(|c| self.may_write(role, *c).is_ok());
+        if let (Some(c), false) = (named, badly_framed(reply)) {
             self.watch_volts_refused(c, Did::volts_after_reply_refused_1);
         }
     }

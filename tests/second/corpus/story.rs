@@ -80,7 +80,7 @@ impl Taste {
         Taste { volts: 0, downloads: 85, ..Taste::of_volts(d) }
     }
 
-    /// Acts around roles, and about as many of all other kinds.
+    /// Many acts around roles, and some of every other kind.
     fn of_roles(d: &Dice) -> Taste {
         Taste { tags: 10, volts: 10, downloads: 10, roles: 40, ..Taste::of_volts(d) }
     }

@@ -166,7 +166,8 @@ impl Roles {
         let is_other = record.role != Role::Examiner;
         let Some(call) = call else {
             self.count_if(is_other && matches!(told, Answer::Ok | Answer::Wrote(_)), Row::NoRole(record.kind));
-            self.count_if(record.role == Role::Watcher && record.kind == 9, Row::NoTicks);
+            let is_none = record.role == Role::Watcher && record.kind == 9 && matches!(told, Answer::Ticks(_));
+            self.count_if(is_none, Row::NoTicks);
             return;
         };
         let is_refused = match told {

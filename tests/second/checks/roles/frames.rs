@@ -1,7 +1,7 @@
 //! Examples of ticks: "a tick's answer shows a seat only channels it may read", and "a frame that a tick doesn't show still
 //! counts as sent".
 
-use super::{access, number};
+use super::access;
 use crate::board::Reply;
 use crate::checks::{Done, Small};
 use crate::frame::frame;
@@ -85,11 +85,11 @@ fn commands() -> Done {
     let (mut seen, mut hidden) = (asked(0x01), asked(0xFE));
     let is_hidden = hidden.tick(Candidate) == Ok([None; 4]);
     let is_gone = hidden.tick(Examiner) == Ok([None; 4]);
-    let kept = number(hidden.b.reply(Examiner, 1, frame(0x15, 9, 0), &mut hidden.r));
+    let is_kept = hidden.b.reply(Examiner, 1, frame(0x15, 9, 0), &mut hidden.r) == Ok(Reply::Kept);
     vec![
         ("a command frame", seen.tick(Candidate) == Ok([Some(frame(0x15, 0, 0)), None, None, None])),
         ("one that is not shown leaves once", is_hidden && is_gone),
-        ("and takes replies", kept == 0 && hidden.b.read(Examiner, 0x8E6) == Ok(9)),
+        ("and takes replies", is_kept && hidden.b.read(Examiner, 0x8E6) == Ok(9)),
     ]
 }
 

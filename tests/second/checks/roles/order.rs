@@ -1,7 +1,7 @@
 //! Examples of 13 among the other refusals, of what it leaves, and of what gives permissions.
 
 use super::{access, number, READS, WRITES};
-use crate::board::{Board, Portion, Reply};
+use crate::board::{Board, Portion, Reply, Setpoint};
 use crate::checks::{Done, Small};
 use crate::role::Role::{Candidate, Examiner, Watcher};
 use crate::role::{Access, Role};
@@ -18,6 +18,7 @@ fn before() -> Done {
         t.b.write(Candidate, 0x814, 1, &mut []), t.b.write(Watcher, 0x22, 1, &mut []), t.b.event(Watcher, 1, &mut []),
         t.b.reply(Candidate, 1, 3, &mut []).map(|_| ()), t.b.retired(Watcher, 1, &[], &[]).map(|_| ()),
         t.b.portion(Candidate, portion, [&[], &[]]).map(|_| ()), t.b.tick(Watcher, &[], |_, _| {}),
+        t.b.set(Watcher, Setpoint { c: 1, user: 1, buffer: 1, index: 0, word: 1 }, &mut []),
     ];
     let is_unmapped = |t: &mut Small, address| {
         [Candidate, Watcher].iter().all(|role| t.write_as(*role, address, 1) == 3 && t.b.read(*role, address) == Err(3))
@@ -25,7 +26,7 @@ fn before() -> Done {
     // the calls that name a channel by its number
     let no_channel = |t: &mut Small, c| {
         let calls = WRITES.iter().take(1).chain(&WRITES[2..]).chain(&READS[1..4]);
-        calls.into_iter().all(|(_, ask)| ask(t, Candidate, c) == 2 && ask(t, Watcher, c) == 2)
+        calls.clone().all(|(_, ask)| ask(t, Candidate, c) == 2 && ask(t, Watcher, c) == 2)
     };
     vec![
         ("1 before 13", short.iter().all(|told| *told == Err(1))),
@@ -63,7 +64,7 @@ fn after() -> Done {
     ]
 }
 
-/// "A refusal returns its number alone": nothing changes.
+/// Document 01: "A refusal returns its number alone"; nothing changes.
 fn left() -> Done {
     let mut t = Small::open_for(7, &[5], Access::NONE);
     t.write(0x808, 1);

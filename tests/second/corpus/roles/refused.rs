@@ -4,7 +4,7 @@ use super::Turn;
 use crate::corpus::story::BASE;
 use crate::corpus::world::{Op, World};
 
-/// Reasons that are checked after 13, and with it those that are checked before it.
+/// Reasons that are checked after 13, and then those that are checked before it.
 pub fn otherwise(world: &mut World, t: &Turn) {
     t.retire(world);
     t.start(world, &[0, 0]);
