@@ -1,15 +1,24 @@
 // Ticks in a row by role, each frame that it is shown printed with its tick and channel: the words of tests/CALLS.md, Records, kind 9.
 use access_control::GuardedBoard;
-use board::Frames;
 use board_state::Board;
 use channel_ticks::quiet::least;
 use output::Block;
+use permissions::BoardRights;
 use permissions::Role;
+use refusal::Verdict;
 ghost use mathlib.Core.Path.{_≡_};
 ghost use Prim.Native.Nat.{_<_, _≤_};
 
 // The frames of a channel in some ticks, each at the place of its tick; 0 is none, since every frame ends in two stop bits.
 type Captured = [u64; 128];
+
+// The channels whose frames are printed.
+struct Shown {
+    pub first: bool,
+    pub second: bool,
+    pub third: bool,
+    pub fourth: bool,
+}
 
 fn frame(block: &mut Block, tick: u64, channel: u64, frame: u64) {
     if frame != 0 {
@@ -43,10 +52,10 @@ fn by_tick(
     }
 }
 
-// The frames of a channel in the board's next so many ticks, if the role is shown them.
+// The frames of a channel in the board's next so many ticks, if it is shown.
 fn capture(
-    g: GuardedBoard,
-    role: Role,
+    b: Board,
+    is_shown: bool,
     setpoints: &[u32],
     number: u32,
     count: u32,
@@ -54,31 +63,23 @@ fn capture(
 )
     requires { ⌜ count ≤ 128 ⌝ }
 {
-    let rights = g.rights;
-    if rights.may_read(role, number) {
-        board_ticks::frames(g.board, setpoints, number, count, frames);
+    if is_shown {
+        board_ticks::frames(b, setpoints, number, count, frames);
     }
 }
 
-// The frames of the board's next so many ticks, which come after the first `before`.
-fn frames(
-    block: &mut Block,
-    g: GuardedBoard,
-    role: Role,
-    setpoints: &[u32],
-    before: u32,
-    count: u32,
-)
+// The frames of the board's next so many ticks, which come after the first `before`, of the channels that are shown.
+fn frames(block: &mut Block, b: Board, shown: Shown, setpoints: &[u32], before: u32, count: u32)
     requires { ⌜ count ≤ 128 ⌝ }
 {
     let mut first = [0u64; 128];
     let mut second = [0u64; 128];
     let mut third = [0u64; 128];
     let mut fourth = [0u64; 128];
-    capture(g, role, setpoints, 1, count, &mut first);
-    capture(g, role, setpoints, 2, count, &mut second);
-    capture(g, role, setpoints, 3, count, &mut third);
-    capture(g, role, setpoints, 4, count, &mut fourth);
+    capture(b, shown.first, setpoints, 1, count, &mut first);
+    capture(b, shown.second, setpoints, 2, count, &mut second);
+    capture(b, shown.third, setpoints, 3, count, &mut third);
+    capture(b, shown.fourth, setpoints, 4, count, &mut fourth);
     by_tick(block, before, count, &first, &second, &third, &fourth);
 }
 
@@ -103,36 +104,36 @@ fn at_once(quiet: u32, rest: u32) -> u32
     128
 }
 
-fn after(g: GuardedBoard, setpoints: &[u32], count: u32) -> GuardedBoard {
-    let advanced = board_ticks::ticks(g.board, setpoints, count);
+fn after(b: Board, setpoints: &[u32], count: u32) -> Board {
+    let advanced = board_ticks::ticks(b, setpoints, count);
     let board = advanced.board;
-    let rights = g.rights;
-    GuardedBoard {
-        board: board,
-        rights: rights,
-    }
+    board
 }
 
-// As many ticks, each with the frames that the role is shown. Those on which no channel acts are jumped over.
-fn each_tick(
-    block: &mut Block,
-    g: GuardedBoard,
-    role: Role,
-    setpoints: &[u32],
-    count: u32,
-) -> GuardedBoard {
-    let mut guarded = g;
+// As many ticks, each with the frames that are shown. Those on which no channel acts are jumped over.
+fn each_tick(block: &mut Block, b: Board, shown: Shown, setpoints: &[u32], count: u32) -> Board {
+    let mut board = b;
     let mut before: u32 = 0;
     while before < count {
-        let quiet = quiet_of(guarded.board, count - before);
+        let quiet = quiet_of(board, count - before);
         let batch = at_once(quiet, count - before);
         if quiet == 0 {
-            frames(block, guarded, role, setpoints, before, batch);
+            frames(block, board, shown, setpoints, before, batch);
         }
-        guarded = after(guarded, setpoints, batch);
+        board = after(board, setpoints, batch);
         before += batch;
     }
-    guarded
+    board
+}
+
+// The channels that a role is shown.
+fn shown_to(rights: BoardRights, role: Role) -> Shown {
+    Shown {
+        first: rights.may_read(role, 1),
+        second: rights.may_read(role, 2),
+        third: rights.may_read(role, 3),
+        fourth: rights.may_read(role, 4),
+    }
 }
 
 fn taken(
@@ -143,10 +144,24 @@ fn taken(
     count: u32,
 ) -> GuardedBoard {
     output::text(block, b" ticks");
-    each_tick(block, g, role, setpoints, count)
+    let rights = g.rights;
+    let board = each_tick(block, g.board, shown_to(rights, role), setpoints, count);
+    GuardedBoard {
+        board: board,
+        rights: rights,
+    }
 }
 
-// As many ticks. All of them are refused or none is: a tick whose board is dropped tells.
+// Whether a tick is refused: its length, then the role.
+fn check(g: GuardedBoard, role: Role, setpoints: &[u32]) -> Verdict {
+    let board = g.board;
+    access_control::check_permission(
+        access_control::check_length(setpoints.len(), board.n as usize * 64),
+        permissions::may_tick(role),
+    )
+}
+
+// As many ticks. All of them are refused or none is.
 pub fn ticks(
     block: &mut Block,
     g: GuardedBoard,
@@ -157,11 +172,10 @@ pub fn ticks(
     if count == 0 {
         return taken(block, g, role, setpoints, 0);
     }
-    let trial = guarded_board::tick(g, role, setpoints);
-    let frames = trial.frames;
-    match frames {
-        Frames::Each(_, _, _, _) => taken(block, g, role, setpoints, count),
-        Frames::Refused(reason) => {
+    let verdict = check(g, role, setpoints);
+    match verdict {
+        Verdict::Allowed => taken(block, g, role, setpoints, count),
+        Verdict::Refused(reason) => {
             printed_calls::refused(block, reason);
             g
         }

@@ -5,10 +5,10 @@ use Rattle.printed_ticks.proofs.each_tick.Statement.{statement}
 use Rattle.printed_ticks.proofs.each_tick.Tie as tie
 
 abbrev Inv-loop : tie.InvT-loop
-Inv-loop block₀ role setpoints count guarded₀ before₀ block guarded before = before ≤ count
+Inv-loop block₀ shown setpoints count board₀ before₀ block board before = before ≤ count
 
 abbrev μ-loop : tie.MeasureT-loop
-μ-loop block₀ role setpoints count guarded₀ before₀ block guarded before = count - before
+μ-loop block₀ shown setpoints count board₀ before₀ block board before = count - before
 
 loop-holds : tie.Need-loop-holds Inv-loop μ-loop
 loop-holds c = search needs
