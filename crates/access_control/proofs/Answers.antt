@@ -11,44 +11,30 @@ use Rattle.channel_core.specs.Answers.{Answer}
 use Rattle.channel_core.specs.Answers as ans
 use Rattle.channel.specs.Calls.{then}
 use Rattle.channel.specs.OneChannel.{lengthRefusal, responses}
-use Rattle.channel.proofs.Cases.{clash}
 use Rattle.permissions.specs.declared.Role.{Role}
 use Rattle.permissions.specs.declared.BoardRights.{BoardRights}
 use Rattle.permissions.specs.Rights.{rightsAt, mayRead, isExaminer}
 use Rattle.board_state.specs.declared.Board.{Board}
 use Rattle.board_state.specs.Main.{levelOf}
-use Rattle.board_state.specs.Checks.{sizeMismatch}
+use Rattle.board_state.specs.Checks.{setpointsFit, sizeMismatch}
 use Rattle.board.specs.Answers.{BoardAnswer, one, each}
-use Rattle.board.specs.Calls.{tickFrame}
 use Rattle.board.specs.Calls as board
 use Rattle.board_registers.specs.Calls as registers
 use Rattle.board.specs.Worlds.{World}
 use Rattle.isolation.specs.Calls.{Call, writeRegister, readRegister, writeSetpoint, arm, disarm, openDownload, reply, query, tick, event, changeUser, interruptLevel, Lent, first, second, lengths, answer, Fits}
 use Rattle.isolation.specs.Feeding.{only, Scope, ofOne, scope, answerFor, observeIn, observe}
 use Rattle.isolation.proofs.Parts.{Number}
-use Rattle.isolation.proofs.Cases.{of-four}
 use Rattle.isolation.proofs.Items.{item}
 use Rattle.access_control.specs.Guarding.{denied, earlier, earlierOn, permissionDenied, refusedBy, shownFrame, shown, answerIn, GuardedFits}
 use Rattle.access_control.specs.Noninterference.{hidden}
 use Rattle.access_control.proofs.Earlier.{earlier-first}
-use Rattle.access_control.proofs.Laws.{then-refuses, answer-denied, answer-granted}
+use Rattle.access_control.proofs.Laws.{then-refuses, only-same, frame-shown, tick-answered, tick-refused, tick-each, answer-denied, answer-granted}
 use Rattle.access_control.proofs.Worlds.{at, fits}
 use Rattle.access_control.proofs.Hiding.{Reads, shown-read}
 use Rattle.access_control.proofs.Same.{Same, lengths-same, by, fed-same}
 
--- what is observed of a call that names the channel
-only-same : {A : Type 0} (t : Bool) {a b : A} → t ≡ true → only t a ≡ only t b → a ≡ b
-only-same true q e = cc
-only-same false q e = clash q
-
 each-same : {a b c d a' b' c' d' : Answer} → a ≡ a' → b ≡ b' → c ≡ c' → d ≡ d' → each a b c d ≡ each a' b' c' d'
 each-same p q s t = cc
-
--- of a tick that is not refused, a channel's
-of-tick : (w : World) (l : Lent) (c : ℕ) → Number c → eqb (length (first l)) (w .board .n * 64) ≡ true
-    → answerFor c (answer (w .board) tick l) ≡ tickFrame (w .board) (first l) c
-unfolding answer board.tickBoardAnswer
-of-tick w l c h e = rw e (of-four (tickFrame (w .board) (first l)) c h)
 
 module _ (r : BoardRights) (p : Role) (w v : World) (s : Same r p w v) (l k : Lent) (e : lengths l ≡ lengths k) where
   one-length : length (first l) ≡ length (first k)
@@ -127,27 +113,25 @@ module _ (r : BoardRights) (p : Role) (w v : World) (s : Same r p w v) (l k : Le
       go false t = refl
 
   tick-same : Fits w (at tick l) → Fits v (at tick k) → shown r p (answer (w .board) tick l) ≡ shown r p (answer (v .board) tick k)
-  unfolding answer board.tickBoardAnswer
-  tick-same f g = go (eqb (length (first l)) (w .board .n * 64)) refl
+  tick-same f g = go (setpointsFit (w .board) (length (first l))) refl
     where
       -- refused in both, or in neither
-      fit-same : eqb (length (first l)) (w .board .n * 64) ≡ eqb (length (first k)) (v .board .n * 64)
+      fit-same : setpointsFit (w .board) (length (first l)) ≡ setpointsFit (v .board) (length (first k))
       fit-same = ap₂ (λ (k n : ℕ). eqb k (n * 64)) one-length (s .n)
 
-      four : (c : ℕ) → Number c → eqb (length (first l)) (w .board .n * 64) ≡ true → eqb (length (first k)) (v .board .n * 64) ≡ true
-          → shownFrame (rightsAt r c) p (tickFrame (w .board) (first l) c) ≡ shownFrame (rightsAt r c) p (tickFrame (v .board) (first k) c)
-      four c h a b =
-          ap (shownFrame (rightsAt r c) p) (sym (of-tick w l c h a))
-          ∙ frame-same f g c h
-          ∙ ap (shownFrame (rightsAt r c) p) (of-tick v k c h b)
-
-      go : (t : Bool) → eqb (length (first l)) (w .board .n * 64) ≡ t
+      go : (t : Bool) → setpointsFit (w .board) (length (first l)) ≡ t
           → shown r p (answer (w .board) tick l) ≡ shown r p (answer (v .board) tick k)
       go true q =
-          rw (q, sym fit-same ∙ q)
-          (each-same (four 1 (record { low = omega arith; high = omega arith }) q (sym fit-same ∙ q)) (four 2 (record { low = omega arith; high = omega arith }) q (sym fit-same ∙ q))
-          (four 3 (record { low = omega arith; high = omega arith }) q (sym fit-same ∙ q)) (four 4 (record { low = omega arith; high = omega arith }) q (sym fit-same ∙ q)))
-      go false q = rw (q, sym fit-same ∙ q)
+          let u = sym fit-same ∙ q in
+          let same : (c : ℕ) → Number c → answerFor c (shown r p (answer (w .board) tick l)) ≡ answerFor c (shown r p (answer (v .board) tick k)) =
+          λ c h. frame-shown r p (w .board) l c h (tick-answered (w .board) l q)
+          ∙ frame-same f g c h
+          ∙ sym (frame-shown r p (v .board) k c h (tick-answered (v .board) k u)) in
+          tick-each r p (w .board) l q
+          ∙ each-same (same 1 (record { low = omega arith; high = omega arith })) (same 2 (record { low = omega arith; high = omega arith }))
+          (same 3 (record { low = omega arith; high = omega arith })) (same 4 (record { low = omega arith; high = omega arith }))
+          ∙ sym (tick-each r p (v .board) k u)
+      go false q = ap (shown r p) (tick-refused (w .board) l q ∙ sym (tick-refused (v .board) k (sym fit-same ∙ q)))
 
   shown-same : (x : Call) → Fits w (at x l) → Fits v (at x k) → hidden r p x ≡ false → denied r p x ≡ false
       → shown r p (answer (w .board) x l) ≡ shown r p (answer (v .board) x k)

@@ -12,15 +12,15 @@ use Rattle.channel_core.specs.Answers as ans
 use Rattle.channel.specs.Calls.{then}
 use Rattle.channel.specs.OneChannel.{Query, ChannelCall, lengthRefusal, refusalOf, answer, response, responses}
 use Rattle.channel.specs.OneChannel as to
+use Rattle.board_state.specs.Checks.{setpointsFit}
 use Rattle.board.specs.Answers.{BoardAnswer, one}
-use Rattle.board.specs.Calls.{tickFrame}
 use Rattle.board.specs.Calls as board
 use Rattle.board.specs.Worlds.{World}
 use Rattle.isolation.specs.Calls.{Call, writeRegister, readRegister, writeSetpoint, arm, disarm, openDownload, reply, query, tick, event, changeUser, interruptLevel, Lent, first, second, queryLending, Fits}
 use Rattle.isolation.specs.Calls as calls
 use Rattle.isolation.specs.Feeding.{only, feeds, answerFor, observe, view}
 use Rattle.isolation.proofs.Parts.{Number}
-use Rattle.isolation.proofs.Cases.{of-four, in-range}
+use Rattle.isolation.proofs.Cases.{in-range}
 use Rattle.isolation.proofs.Worlds.{Good}
 use Rattle.isolation.proofs.Items.{item}
 use Rattle.permissions.specs.declared.Role.{Role}
@@ -28,7 +28,7 @@ use Rattle.permissions.specs.declared.BoardRights.{BoardRights}
 use Rattle.permissions.specs.Rights.{rightsAt, mayRead, mayWrite, mayReadRegister}
 use Rattle.access_control.specs.Guarding.{denied, lentRefusal, channelRefusal, earlierOn, shownFrame, shown}
 use Rattle.access_control.specs.OneChannel.{deniedTo, queryEarlier, earlierTo, shownTo}
-use Rattle.access_control.proofs.Laws.{then-granted}
+use Rattle.access_control.proofs.Laws.{then-granted, only-same, frame-shown, tick-answered, tick-refused}
 use Rattle.access_control.proofs.Worlds.{at}
 
 -- the channel passed
@@ -45,9 +45,6 @@ query-lent n m d to.retiredLength k j = refl
 query-lent n m d to.readings k j = refl
 query-lent n m d (to.portion i z) k j = refl
 query-lent n m d (to.portionLength i z) k j = refl
-
-head-same : {A : Type 0} {a b : A} → a ∷ [] ≡ b ∷ [] → a ≡ b
-head-same e = cc
 
 module _ (r : BoardRights) (p : Role) (w : World) (g : Good w) (c : ℕ) (h : Number c) (l : Lent) where
   -- fed one call, or none
@@ -130,20 +127,19 @@ module _ (r : BoardRights) (p : Role) (w : World) (g : Good w) (c : ℕ) (h : Nu
   tick-shown : Fits w (at tick l) → observe c tick (shown r p (calls.answer (w .board) tick l))
       ≡ unless (refusalOf (view c w) (to.tick (length (first l))))
       (shownFrame (rightsAt r c) p (answer (view c w) (to.tick (length (first l))))) ∷ []
-  unfolding calls.answer board.tickBoardAnswer response refusalOf
-  tick-shown f = go (eqb (length (first l)) (w .board .n * 64)) refl
+  unfolding response refusalOf
+  tick-shown f = go (setpointsFit (w .board) (length (first l))) refl
     where
-      go : (t : Bool) → eqb (length (first l)) (w .board .n * 64) ≡ t
+      go : (t : Bool) → setpointsFit (w .board) (length (first l)) ≡ t
           → observe c tick (shown r p (calls.answer (w .board) tick l))
           ≡ unless (refusalOf (view c w) (to.tick (length (first l))))
           (shownFrame (rightsAt r c) p (answer (view c w) (to.tick (length (first l))))) ∷ []
       go true e =
           rw e
           (ap (λ (a : Answer). a ∷ [])
-          (of-four (λ (j : ℕ). shownFrame (rightsAt r j) p (tickFrame (w .board) (first l) j)) c h
-          ∙ ap (shownFrame (rightsAt r c) p)
-          (sym (of-four (tickFrame (w .board) (first l)) c h) ∙ head-same (rw e at (item w g c h l tick f .observed)))))
-      go false e = rw e
+          (frame-shown r p (w .board) l c h (tick-answered (w .board) l e)
+          ∙ ap (shownFrame (rightsAt r c) p) (only-same true refl (rw e at (item w g c h l tick f .observed)))))
+      go false e = rw (tick-refused (w .board) l e, e)
 
   pub fed-one : (x : Call) → Fed x
   unfolding calls.answer

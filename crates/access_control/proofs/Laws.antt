@@ -23,13 +23,13 @@ use Rattle.permissions.specs.declared.ChannelRights.{ChannelRights}
 use Rattle.permissions.specs.declared.BoardRights.{BoardRights}
 use Rattle.permissions.specs.Rights.{rightsAt}
 use Rattle.board_state.specs.declared.Board.{Board}
-use Rattle.board_state.specs.Checks.{setpointsFit, noChannel}
+use Rattle.board_state.specs.Checks.{setpointsFit, noChannel, sizeMismatch}
 use Rattle.board.specs.Answers.{BoardAnswer, one, each, refuses}
 use Rattle.board.specs.Calls.{tickFrame, tickBoardAnswer}
 use Rattle.board.specs.Worlds.{World}
 use Rattle.isolation.specs.Calls.{Call, writeRegister, readRegister, writeSetpoint, arm, disarm, openDownload, reply, query, tick, event, changeUser, interruptLevel, Lending, Lent, none, words, buffers, step}
 use Rattle.isolation.specs.Calls as calls
-use Rattle.isolation.specs.Feeding.{answerFor}
+use Rattle.isolation.specs.Feeding.{only, answerFor}
 use Rattle.isolation.proofs.Parts.{Number}
 use Rattle.isolation.proofs.Cases.{of-four}
 use Rattle.isolation.proofs.Refused.{refused-changes-nothing}
@@ -243,7 +243,27 @@ pub calls-answered : CallsAnswered
 calls-answered r p b x l =
     record { first = first-answer r p b x l; second = second-answer r p b x l; exactly = exact-answer r p b x l; last = unguarded r p b x l }
 
+-- what is observed of a call that concerns the channel
+pub only-same : {A : Type 0} (t : Bool) {a b : A} → t ≡ true → only t a ≡ only t b → a ≡ b
+only-same true q e = cc
+only-same false q e = clash q
+
 -- ---- What a tick shows
+
+-- a tick that is lent the setpoints is not refused
+pub tick-answered : (b : Board) (l : Lent) → setpointsFit b (length (calls.first l)) ≡ true → refuses (calls.answer b tick l) ≡ false
+unfolding calls.answer tickBoardAnswer
+tick-answered b l e = rw e
+
+pub tick-refused : (b : Board) (l : Lent) → setpointsFit b (length (calls.first l)) ≡ false → calls.answer b tick l ≡ one sizeMismatch
+unfolding calls.answer tickBoardAnswer
+tick-refused b l e = rw e
+
+-- the four frames of such a tick are those of its channels
+pub tick-each : (r : BoardRights) (p : Role) (b : Board) (l : Lent) → setpointsFit b (length (calls.first l)) ≡ true
+    → let s = shown r p (calls.answer b tick l) in s ≡ each (answerFor 1 s) (answerFor 2 s) (answerFor 3 s) (answerFor 4 s)
+unfolding calls.answer tickBoardAnswer
+tick-each r p b l e = rw e
 
 tick-whole : (r : BoardRights) (p : Role) (b : Board) (l : Lent) → refuses (guardedAnswer r p b tick l) ≡ false
     → guardedAnswer r p b tick l ≡ shown r p (calls.answer b tick l)
@@ -254,7 +274,7 @@ tick-whole r p b l h = go (eqb (guardRefusal r p b tick l) 0) refl
     go false e = clash (sym h ∙ ap refuses (stopped-answer r p b tick l e))
 
 -- of a tick that is not refused, what is shown of channel c
-frame-shown : (r : BoardRights) (p : Role) (b : Board) (l : Lent) (c : ℕ) → Number c → refuses (calls.answer b tick l) ≡ false
+pub frame-shown : (r : BoardRights) (p : Role) (b : Board) (l : Lent) (c : ℕ) → Number c → refuses (calls.answer b tick l) ≡ false
     → answerFor c (shown r p (calls.answer b tick l)) ≡ shownFrame (rightsAt r c) p (answerFor c (calls.answer b tick l))
 unfolding calls.answer tickBoardAnswer
 frame-shown r p b l c n h = go (setpointsFit b (length (calls.first l))) refl
