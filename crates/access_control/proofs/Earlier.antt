@@ -24,7 +24,7 @@ use Rattle.board.specs.Answers.{one}
 use Rattle.board.specs.Calls as board
 use Rattle.board_channels.specs.Calls as channels
 use Rattle.board_downloads.specs.Calls as downloads
-use Rattle.board_readings.specs.Calls.{readingsAnswer}
+use Rattle.board_readings.specs.Calls.{readingsAnswer, lastTickAnswer}
 use Rattle.board_registers.specs.Calls as registers
 use Rattle.isolation.specs.Calls.{writeRegister, readRegister, writeSetpoint, arm, disarm, openDownload, reply, query, tick, event, changeUser, interruptLevel, Lent, first, queryAnswerAt, answer}
 use Rattle.access_control.specs.Guarding.{unmappedRefusal, addressRefusal, channelRefusal, earlierOn, refusedBy}
@@ -68,6 +68,7 @@ query-earlier : (o : OneChannel) (q : Query) (k j : ℕ) → Refuses (queryEarli
 query-earlier o to.retired k j h = refl
 query-earlier o to.retiredLength k j h = refl
 query-earlier o to.readings k j h = clash (sym h)
+query-earlier o to.lastTick k j h = clash (sym h)
 query-earlier o (to.portion i n) k j h = then-left _ _ h
 query-earlier o (to.portionLength i n) k j h = then-left _ _ h
 
@@ -127,10 +128,11 @@ module _ (b : Board) where
   read-earlier nothing h = refl
 
   asked-earlier : (d : ℕ) (q : Query) (l : Lent) → Refuses (earlierOn b (query d q) l) → queryAnswerAt b d q l ≡ ans.refused (earlierOn b (query d q) l)
-  unfolding channels.retiredAnswer channels.retiredLength downloads.portionAnswer downloads.portionLength readingsAnswer
+  unfolding channels.retiredAnswer channels.retiredLength downloads.portionAnswer downloads.portionLength readingsAnswer lastTickAnswer
   asked-earlier d to.retired l h = unless-earlier _ _ _ refl h
   asked-earlier d to.retiredLength l h = unless-earlier _ _ _ refl h
   asked-earlier d to.readings l h = range-earlier d _ h
+  asked-earlier d to.lastTick l h = range-earlier d _ h
   asked-earlier d (to.portion i n) l h = unless-earlier _ _ _ (then-left _ _ h) h
   asked-earlier d (to.portionLength i n) l h = unless-earlier _ _ _ (then-left _ _ h) h
 

@@ -43,6 +43,7 @@ query-lent : (n m d : ℕ) (q : Query) (k j : ℕ) → lentRefusal n m (queryLen
 query-lent n m d to.retired k j = refl
 query-lent n m d to.retiredLength k j = refl
 query-lent n m d to.readings k j = refl
+query-lent n m d to.lastTick k j = refl
 query-lent n m d (to.portion i z) k j = refl
 query-lent n m d (to.portionLength i z) k j = refl
 

@@ -34,7 +34,7 @@ use Rattle.board_state.specs.Checks.{noChannel, outOfRange, sizeMismatch}
 use Rattle.board.specs.Calls as board
 use Rattle.board_channels.specs.Calls as channels
 use Rattle.board_downloads.specs.Calls as downloads
-use Rattle.board_readings.specs.Calls.{readingsAnswer}
+use Rattle.board_readings.specs.Calls.{readingsAnswer, lastTickAnswer}
 use Rattle.board_registers.specs.Calls as registers
 use Rattle.isolation.specs.Calls.{Call, writeRegister, readRegister, writeSetpoint, arm, disarm, openDownload, reply, query, tick, event, changeUser, interruptLevel, Lent, first, second, queryAnswerAt, answer}
 use Rattle.access_control.specs.Guarding.{unmappedRefusal, addressRefusal, channelRefusal, earlierOn}
@@ -120,6 +120,7 @@ query-later : (o : OneChannel) (q : Query) (k j : ℕ) → Passes (queryEarlier 
 query-later o to.retired k j h = none (retiredRefusal (o .m) k j) h
 query-later o to.retiredLength k j h = none (retiredRefusal (o .m) k j) h
 query-later o to.readings k j h = told refl
+query-later o to.lastTick k j h = told refl
 query-later o (to.portion i n) k j h =
     then-later (retiredRefusal (o .m) k j) (download.portionRefusal (o .channel .download) i n) h (portion-later (o .channel .download) i n)
 query-later o (to.portionLength i n) k j h =
@@ -192,10 +193,11 @@ module _ (b : Board) where
       then-later (asked d l) (download.portionRefusal (channelAt b d .download) i n) h (portion-later (channelAt b d .download) i n)
 
   asked-later : (d : ℕ) (q : Query) (l : Lent) → Passes (earlierOn b (query d q) l) → Later (refusalIn (queryAnswerAt b d q l))
-  unfolding channels.retiredAnswer channels.retiredLength downloads.portionAnswer downloads.portionLength readingsAnswer one-readings.readingsAnswer
+  unfolding channels.retiredAnswer channels.retiredLength downloads.portionAnswer downloads.portionLength readingsAnswer one-readings.readingsAnswer lastTickAnswer
   asked-later d to.retired l h = unless-later (asked d l) _ (none (asked d l) h) (told refl)
   asked-later d to.retiredLength l h = unless-later (asked d l) _ (none (asked d l) h) (told refl)
   asked-later d to.readings l h = range-later d (one-readings.readingsAnswer (channelAt b d)) h (told refl)
+  asked-later d to.lastTick l h = range-later d (ans.lastTick (ans.reasonOf (channelAt b d .outcome))) h (told refl)
   asked-later d (to.portion i n) l h = unless-later _ _ (portion-asked d i n l h) (told refl)
   asked-later d (to.portionLength i n) l h = unless-later _ _ (portion-asked d i n l h) (told refl)
 

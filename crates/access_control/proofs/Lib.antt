@@ -6,6 +6,7 @@ pub mod Worlds
 pub mod Granted
 pub mod Fed
 pub mod GrantedFed
+pub mod LastTicks
 pub mod Isolation
 pub mod Shown
 pub mod Hiding

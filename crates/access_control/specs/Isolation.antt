@@ -1,29 +1,32 @@
 -- Document 02, card 9: "The one-channel definition takes the same seats and rights, and demand 3 now supposes the rights the same". Demand 3 by role, and
--- what stands beside it. Proofs: proofs/Isolation.antt and Shown; of what is refused Worlds, of what is granted Granted and GrantedFed.
+-- what stands beside it. Proofs: proofs/Isolation.antt and Shown; of what is refused Worlds, of what is granted Granted and GrantedFed; of the last tick LastTicks.
 use Prim.Native.Nat.{ℕ, _*_, _≤_}
 use mathlib.Core.Path.{_≡_}
-use mathlib.Core.Bool.{true, not}
+use mathlib.Core.Bool.{true, false, not}
 use mathlib.Core.List.{List, [], _∷_, _++_}
 use lib.ListN.{length}
+use Rattle.channel_core.specs.Results.{TickReason}
 use Rattle.channel_core.specs.Answers.{Answer}
 use Rattle.channel_core.specs.Answers as ans
 use Rattle.channel.specs.OneChannel.{OneChannel, ChannelCall, transitions, responses}
+use Rattle.channel.specs.OneChannel as to
+use Rattle.histories.specs.LastTicks.{LastTick, lastTickOver, FirstHeld}
 use Rattle.histories.specs.Ranges.{InRange}
 use Rattle.permissions.specs.declared.Role.{Role}
 use Rattle.permissions.specs.declared.Role.the-variants as role
 use Rattle.permissions.specs.declared.ChannelRights.{ChannelRights}
 use Rattle.permissions.specs.declared.BoardRights.{BoardRights}
-use Rattle.permissions.specs.Rights.{rightsAt}
+use Rattle.permissions.specs.Rights.{rightsAt, mayRead}
 use Rattle.board_state.specs.declared.Board.{Board}
 use Rattle.board_state.specs.Parts.{own}
-use Rattle.board.specs.Answers.{refuses}
+use Rattle.board.specs.Answers.{one, refuses}
 use Rattle.board.specs.Calls.{openAnswer}
 use Rattle.board.specs.Worlds.{World}
-use Rattle.isolation.specs.Calls.{Call, Lent, Item, Allowed, worldAfter, opening}
+use Rattle.isolation.specs.Calls.{Call, query, Lent, none, Item, Allowed, worldAfter, opening}
 use Rattle.isolation.specs.Feeding.{only, names, feeds, fed, observe, view}
 use Rattle.isolation.specs.Isolation.{oneChannelAt, Shows}
 use Rattle.access_control.specs.OneChannel.{ChannelRequest, deniedTo, guardedTransitions, guardedResponses}
-use Rattle.access_control.specs.Guarding.{Request, denied, guardedAnswer, guardedAfter, guardedLentAfter, answerIn, guardedStep, GuardedFits, GuardedAllowed, guardedWorldAfter}
+use Rattle.access_control.specs.Guarding.{Request, denied, permissionDenied, refusedBy, guardedAnswer, guardedAfter, guardedLentAfter, answerIn, guardedStep, GuardedFits, GuardedAllowed, guardedWorldAfter}
 
 -- what channel c is fed: as without roles, with the role
 abbrev pub asRole : Role → List ChannelCall → List ChannelRequest
@@ -157,3 +160,24 @@ abbrev pub GrantedFed : Type 0
 GrantedFed =
     (r : BoardRights) (c : ℕ) → 1 ≤ c → c ≤ 4
     → (xs : List Request) → fed c (granted r xs) ≡ grantedTo (rightsAt r c) (guardedFed c xs)
+
+-- ---- Document 02, card 10, by role
+
+-- what a role is told of channel c's last tick, which is `t`: "The call needs the read right."; without it, 13
+pub record ReportsTo (r : BoardRights) (p : Role) (c : ℕ) (w : World) (t : LastTick) : Type 0 where
+  pub named : TickReason
+  pub granted-answer : mayRead (rightsAt r c) p ≡ true → guardedAnswer r p (w .board) (query c to.lastTick) none ≡ one (ans.lastTick named)
+  pub denied-answer : mayRead (rightsAt r c) p ≡ false → guardedAnswer r p (w .board) (query c to.lastTick) none ≡ refusedBy permissionDenied
+  pub first-held : FirstHeld named t
+
+-- from an opening with any rights, after any allowed list of calls by anybody, to any role. The last tick is one that was granted, and what the channel
+-- answered to it: so a tick that is refused 13 is none, and a frame that a role is not shown was sent
+abbrev pub GuardedLastTick : Type 0
+GuardedLastTick =
+    (r : BoardRights) (n m : ℕ) (s t : List ℕ)
+    → openAnswer n m (length s) (length t) ≡ ans.done
+    → (c : ℕ) → 1 ≤ c → c ≤ 4
+    → (xs : List Request) → GuardedAllowed r (opening n m s t) xs
+    → (p : Role)
+    → ReportsTo r p c (guardedWorldAfter r (opening n m s t) xs)
+    (lastTickOver n m (own s (n * 16) c) (own t (m * 2) c) (grantedTo (rightsAt r c) (guardedFed c xs)))

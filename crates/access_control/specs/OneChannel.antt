@@ -6,7 +6,7 @@ use lib.Dec.{eqb}
 use Rattle.register_map.specs.AccessRule.{channelAccess, mainAccess}
 use Rattle.channel_core.specs.Answers.{Answer, unless}
 use Rattle.channel.specs.Calls.{then, retiredRefusal}
-use Rattle.channel.specs.OneChannel.{OneChannel, Query, retired, retiredLength, readings, portion, portionLength, ChannelCall, writeRegister, readRegister, writeSetpoint, arm, disarm, openDownload, reply, query, tick, event, changeUser, writeMain, readMain, lengthRefusal, refusalOf, effect, answer}
+use Rattle.channel.specs.OneChannel.{OneChannel, Query, retired, retiredLength, readings, portion, portionLength, lastTick, ChannelCall, writeRegister, readRegister, writeSetpoint, arm, disarm, openDownload, reply, query, tick, event, changeUser, writeMain, readMain, lengthRefusal, refusalOf, effect, answer}
 use Rattle.permissions.specs.declared.Role.{Role}
 use Rattle.permissions.specs.declared.ChannelRights.{ChannelRights}
 use Rattle.permissions.specs.Rights.{mayRead, mayWrite, mayReadRegister, isExaminer, mayTick}
@@ -39,6 +39,7 @@ queryEarlier m retiredLength one two = retiredRefusal m one two
 queryEarlier m readings one two = 0
 queryEarlier m (portion index size) one two = retiredRefusal m one two
 queryEarlier m (portionLength index size) one two = retiredRefusal m one two
+queryEarlier m lastTick one two = 0
 
 abbrev pub earlierTo : OneChannel → ChannelCall → ℕ
 earlierTo o (writeRegister lent offset value) = then (lengthRefusal lent (o .m * 8)) (unmappedRefusal (channelAccess offset))

@@ -8,7 +8,7 @@ use lib.ListN.{length, getD, set}
 use Rattle.channel_core.specs.declared.Channel.{Channel}
 use Rattle.channel_core.specs.Answers.{Answer}
 use Rattle.channel_core.specs.State.{opened}
-use Rattle.channel_core.specs.Behaviour.{tickOf}
+use Rattle.channel_core.specs.Behaviour.{advancedOf, tickOf, tickAnswer}
 use Rattle.channel_ticks.specs.Ticks.{ticksOf, answerAfter, framesAt, withFrame}
 use Rattle.channel_ticks.specs.Quiet as one
 use Rattle.channel_ticks.proofs.TicksInRow as channel
@@ -48,29 +48,27 @@ four-same (c ∷ d ∷ []) = refl
 four-same (c ∷ d ∷ e ∷ []) = refl
 four-same (c ∷ d ∷ e ∷ i ∷ cs) = refl
 
--- seen again; where an opened one stays, so does the channel that stands for one past the end
-module _ (f : ℕ → Channel → Channel) (still : (j : ℕ) → f j opened ≡ opened) where
+-- seen again, by what is looked at in each; where that stays of an opened one, so it does of the channel that stands for one past the end
+module _ (f : ℕ → Channel → Channel) (look : ℕ → Channel → Answer) (still : (j : ℕ) → look j (f j opened) ≡ look j opened) where
   four-at : (cs : List Channel)
-      → (getD (four cs f) 0 opened ≡ f 1 (getD cs 0 opened))
-      × (getD (four cs f) 1 opened ≡ f 2 (getD cs 1 opened))
-      × (getD (four cs f) 2 opened ≡ f 3 (getD cs 2 opened))
-      × (getD (four cs f) 3 opened ≡ f 4 (getD cs 3 opened))
+      → (look 1 (getD (four cs f) 0 opened) ≡ look 1 (f 1 (getD cs 0 opened)))
+      × (look 2 (getD (four cs f) 1 opened) ≡ look 2 (f 2 (getD cs 1 opened)))
+      × (look 3 (getD (four cs f) 2 opened) ≡ look 3 (f 3 (getD cs 2 opened)))
+      × (look 4 (getD (four cs f) 3 opened) ≡ look 4 (f 4 (getD cs 3 opened)))
   four-at [] = (sym (still 1), sym (still 2), sym (still 3), sym (still 4))
   four-at (c ∷ []) = (refl, sym (still 2), sym (still 3), sym (still 4))
   four-at (c ∷ d ∷ []) = (refl, refl, sym (still 3), sym (still 4))
   four-at (c ∷ d ∷ e ∷ []) = (refl, refl, refl, sym (still 4))
   four-at (c ∷ d ∷ e ∷ i ∷ cs) = (refl, refl, refl, refl)
 
--- an opened channel is idle, and stays as it is
-tick-opened : (s : List ℕ) (n user : ℕ) → tickOf opened s n user ≡ opened
-unfolding tickOf ticked cmd.ticked opened
-tick-opened s n user = refl
+-- an opened channel is idle, and answers the same after any ticks
+advanced-opened : (s : List ℕ) (n user k : ℕ) → channel.advanced s n user opened k ≡ opened
+unfolding channel.advanced ticked cmd.ticked opened
+advanced-opened s n user zero = refl
+advanced-opened s n user (suc k) = ap (λ (c : Channel). advancedOf c s n user) (advanced-opened s n user k)
 
-ticks-opened : (s : List ℕ) (n user k : ℕ) → ticksOf opened s n user k ≡ opened
-unfolding ticksOf
-ticks-opened s n user zero = refl
-ticks-opened s n user (suc k) =
-    ap (λ (c : Channel). tickOf c s n user) (ticks-opened s n user k) ∙ tick-opened s n user
+answer-opened : (s : List ℕ) (n user k : ℕ) → answerAfter opened s n user k ≡ tickAnswer opened s n user
+answer-opened s n user k = channel.answer-is s n user opened k ∙ ap (λ (c : Channel). tickAnswer c s n user) (advanced-opened s n user k)
 
 module _ (b : Board) (s : List ℕ) where
   -- A tick that is refused changes nothing.
@@ -106,7 +104,8 @@ module _ (b : Board) (s : List ℕ) where
     unfolding ticksBoard channelTicks tickBoardAnswer tickFrame
     ticks-answer k =
         let a = four-at (λ j c. ticksOf c (own s (setpointSize b) j) (b .n) (b .user) k)
-        (λ j. ticks-opened (own s (setpointSize b) j) (b .n) (b .user) k) (b .channels) in
+        (λ j c. tickAnswer c (own s (setpointSize b) j) (b .n) (b .user))
+        (λ j. answer-opened (own s (setpointSize b) j) (b .n) (b .user) k) (b .channels) in
         rw fit (rw fit (simp (a .0, a .1, a .2, a .3)))
 
     -- Each frame of a channel's list is the one that the tick of that place answered.

@@ -36,6 +36,8 @@ pub data Query : Type 0 where
   -- document 02, card 8: a portion of its download, `size` words from `index` on, and the twin
   portion : (index size : ℕ) → Query
   portionLength : (index size : ℕ) → Query
+  -- document 02, card 10: what its last tick did, lent nothing
+  lastTick : Query
 
 -- the calls that name the channel, then the shared ones. `lent`, `one`, `two` are the lengths of what the call is lent.
 pub data ChannelCall : Type 0 where
@@ -101,6 +103,7 @@ queryRefusal o retiredLength one two = retiredRefusal (o .m) one two
 queryRefusal o readings one two = 0
 queryRefusal o (portion index size) one two = portionRefusal (o .channel) (o .m) index size one two
 queryRefusal o (portionLength index size) one two = portionRefusal (o .channel) (o .m) index size one two
+queryRefusal o lastTick one two = 0
 
 unfoldable pub refusalOf : OneChannel → ChannelCall → ℕ
 refusalOf o (writeRegister lent offset value) = then (lengthRefusal lent (o .m * 8)) (registerRefusal (o .channel) offset value)
@@ -175,6 +178,7 @@ queryAnswer o retiredLength = ans.partLength (length (retiredOf o))
 queryAnswer o readings = readingsAnswer (o .channel)
 queryAnswer o (portion index size) = ans.part (portionIn o index size)
 queryAnswer o (portionLength index size) = ans.partLength (length (portionIn o index size))
+queryAnswer o lastTick = ans.lastTick (ans.reasonOf (o .channel .outcome))
 
 unfoldable pub answer : OneChannel → ChannelCall → Answer
 answer o (writeRegister lent offset value) = ans.done

@@ -4,7 +4,9 @@ use mathlib.Core.Bool.{Bool, true, false, cond}
 use mathlib.Core.List.{List, []}
 use lib.Dec.{eqb}
 use Rattle.refusal.specs.Refusals.{numberOf}
-use Rattle.channel_core.specs.Results.{Result, AdcReading}
+use Rattle.tick_outcome.specs.declared.TickOutcome.{TickOutcome}
+use Rattle.tick_outcome.specs.declared.TickOutcome.the-variants as tick
+use Rattle.channel_core.specs.Results.{Result, AdcReading, TickReason}
 use Rattle.channel_core.specs.Results as result
 use Rattle.channel_core.specs.declared.Line.{Line}
 use Rattle.channel_core.specs.declared.Line.the-variants as line
@@ -51,6 +53,10 @@ partLength k = other (result.partLength k)
 abbrev pub readings : (third fourth fifth sixth : AdcReading) → Answer
 readings third fourth fifth sixth = other (result.readings third fourth fifth sixth)
 
+-- what the last tick did
+abbrev pub lastTick : TickReason → Answer
+lastTick x = other (result.lastTick x)
+
 -- refused with this number, or not
 abbrev pub unless : ℕ → Answer → Answer
 unless k a = cond (eqb k 0) a (refused k)
@@ -64,6 +70,17 @@ lineOf (line.Frame f) = frame f
 abbrev pub outcomeOf : Outcome → Answer
 outcomeOf outcome.Done = done
 outcomeOf (outcome.Refused k) = refused (numberOf k)
+
+-- the name of what a tick did
+abbrev pub reasonOf : TickOutcome → TickReason
+reasonOf tick.NoTick = result.noTick
+reasonOf tick.Sent = result.sent
+reasonOf tick.Disarmed = result.disarmed
+reasonOf tick.Idle = result.idle
+reasonOf tick.StartDelay = result.startDelay
+reasonOf tick.StartGap = result.startGap
+reasonOf tick.ResumeGap = result.resumeGap
+reasonOf tick.BetweenEdges = result.betweenEdges
 
 -- ---- Tests of an answer
 

@@ -1,6 +1,6 @@
 -- Document 01, 'A channel's life': what a channel does, over its own part of the lent memory (16 × N setpoint words, 2 × M readback words).
 -- Document 02, card 1: command frames, at a tick and a Group End; card 2: what a setpoint send latches for the send before it; card 3: an end word at
--- every Group End; card 6: tags; card 8: a Group End ends the download.
+-- every Group End; card 6: tags; card 8: a Group End ends the download; card 10: what a tick did.
 use Prim.Native.Nat.{ℕ, _+_, _-_, _*_, _%_}
 use mathlib.Core.Bool.{Bool, true, false, cond}
 use mathlib.Core.List.{List}
@@ -21,15 +21,17 @@ use Rattle.sequencer.specs.declared.Transmission.the-variants as transmission
 use Rattle.sequencer.specs.declared.Ticked as t
 use Rattle.sequencer.specs.Playing.{isIdle, unfinished, idled, shortfall, ticked}
 use Rattle.sequencer.specs.Playing as seq
+use Rattle.tick_outcome.specs.declared.TickOutcome.{TickOutcome}
+use Rattle.tick_outcome.specs.Outcomes.{outcome}
 use Rattle.readback.specs.Storing.{endWords}
 use Rattle.readback.specs.Storing as rb
 use Rattle.command_frames.specs.declared.CommandFrames.{CommandFrames}
 use Rattle.command_frames.specs.Commanding.{isDue, commandFrame}
 use Rattle.command_frames.specs.Commanding as cmd
 use Rattle.channel_core.specs.declared.Channel.{Channel}
-use Rattle.channel_core.specs.Answers.{Answer}
+use Rattle.channel_core.specs.Answers.{Answer, isFrame}
 use Rattle.channel_core.specs.Answers as ans
-use Rattle.channel_core.specs.State.{withStatus, withSequencer, withCommands, conditionLatched}
+use Rattle.channel_core.specs.State.{withStatus, withSequencer, withOutcome, withCommands, conditionLatched}
 
 -- ---- Start
 
@@ -64,6 +66,7 @@ groupEnded c =
       readbacks = rb.groupEnded (c .readbacks);
       adc = c .adc;
       download = noDownload;
+      outcome = c .outcome;
       commands = cmd.groupEnded (c .commands);
     }
 
@@ -180,13 +183,21 @@ abbrev pub tickLine : ℕ → CommandFrames → Transmission → Answer
 tickLine id f transmission.Nothing = commandAnswer f
 tickLine id f (transmission.Word word k) = sendFrame id (transmission.Word word k)
 
--- "tick (1 µs)": the channel after it
-unfoldable pub tickOf : Channel → List ℕ → ℕ → ℕ → Channel
-tickOf c s n user =
+-- "A tick answers with each channel's frame or none." Never two: `NeverTogether` (histories).
+unfoldable pub tickAnswer : Channel → List ℕ → ℕ → ℕ → Answer
+tickAnswer c s n user = tickLine (c .registers .id) (c .commands) (playedOf c s n user .transmission)
+
+-- the channel moved by a tick, but for what is said of the tick
+abbrev pub advancedOf : Channel → List ℕ → ℕ → ℕ → Channel
+advancedOf c s n user =
     withCommands
     (withSequencer (withStatus c (sendStatus (c .status) (c .sequencer .last) (playedOf c s n user .transmission))) (playedOf c s n user .sequencer))
     (cmd.ticked (c .commands) (isSetpoint (playedOf c s n user .transmission)))
 
--- "A tick answers with each channel's frame or none." Never two: `NeverTogether` (histories).
-unfoldable pub tickAnswer : Channel → List ℕ → ℕ → ℕ → Answer
-tickAnswer c s n user = tickLine (c .registers .id) (c .commands) (playedOf c s n user .transmission)
+-- card 10: "what the last tick did", by whether it answers a frame, and by "the state just before that tick"
+unfoldable pub tickOutcomeOf : Channel → List ℕ → ℕ → ℕ → TickOutcome
+tickOutcomeOf c s n user = outcome (isFrame (tickAnswer c s n user)) (c .sequencer)
+
+-- "tick (1 µs)": the channel after it
+unfoldable pub tickOf : Channel → List ℕ → ℕ → ℕ → Channel
+tickOf c s n user = withOutcome (advancedOf c s n user) (tickOutcomeOf c s n user)

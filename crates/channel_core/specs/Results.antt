@@ -9,6 +9,25 @@ pub data AdcReading : Type 0 where
   lost : AdcReading
   damaged : AdcReading
 
+-- document 02, card 10, "what the last tick did": the eight names of its list, in its order
+pub data TickReason : Type 0 where
+  -- "no tick yet"
+  noTick : TickReason
+  -- "sent"
+  sent : TickReason
+  -- "disarmed"
+  disarmed : TickReason
+  -- "idle"
+  idle : TickReason
+  -- "start delay"
+  startDelay : TickReason
+  -- "start gap"
+  startGap : TickReason
+  -- "resume gap"
+  resumeGap : TickReason
+  -- "between clock edges"
+  betweenEdges : TickReason
+
 pub data Result : Type 0 where
   -- a write, arming, an event, a user change
   done : Result
@@ -22,3 +41,5 @@ pub data Result : Type 0 where
   partLength : ℕ → Result
   -- the four readings of a send, by its third to sixth replies
   readings : (third fourth fifth sixth : AdcReading) → Result
+  -- what the last tick did
+  lastTick : TickReason → Result

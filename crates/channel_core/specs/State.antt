@@ -9,6 +9,7 @@
 -- Card 6: "a tag not yet used", and whether the last setpoint send used one    sequencer
 -- Card 7: the ADC words of "its last setpoint send", as far as replies to it have come    adc (crate `adc_words`)
 -- Card 8: the download, and the retired count that it "remembers"    download (crate `downloads`)
+-- Card 10: "what the last tick did"    outcome (crate `tick_outcome`)
 use Prim.Native.Nat.{ℕ}
 use Rattle.status.specs.declared.Status.{Status}
 use Rattle.status.specs.Latching as st
@@ -20,50 +21,56 @@ use Rattle.downloads.specs.declared.Download.{Download}
 use Rattle.downloads.specs.Portions.{noDownload}
 use Rattle.sequencer.specs.declared.Sequencer.{Sequencer}
 use Rattle.sequencer.specs.Playing as seq
+use Rattle.tick_outcome.specs.declared.TickOutcome.{TickOutcome}
+use Rattle.tick_outcome.specs.declared.TickOutcome.the-variants as tick
 use Rattle.readback.specs.declared.Readbacks.{Readbacks}
 use Rattle.readback.specs.Storing as rb
 use Rattle.command_frames.specs.declared.CommandFrames.{CommandFrames}
 use Rattle.command_frames.specs.Commanding as cmd
 use Rattle.channel_core.specs.declared.Channel.{Channel}
 
--- "all registers 0, channels disarmed, .. buffers 1 active, no readbacks"
+-- "all registers 0, channels disarmed, .. buffers 1 active, no readbacks"; "no tick yet" (card 10)
 unfoldable pub opened : Channel
 opened =
-    record { status = st.opened; registers = reg.opened; sequencer = seq.opened; readbacks = rb.opened; adc = noneArrived; download = noDownload; commands = cmd.opened }
+    record { status = st.opened; registers = reg.opened; sequencer = seq.opened; readbacks = rb.opened; adc = noneArrived; download = noDownload; outcome = tick.NoTick; commands = cmd.opened }
 
 -- "Reset D0 returns that channel to its opening state; lent words and its Main bits stay (bench)."; so it drops "a waiting frame" (card 1) and "a tag not
--- yet used" (card 6), and "ends the download" (card 8)
+-- yet used" (card 6), "ends the download" (card 8) and "returns the channel to no tick yet" (card 10)
 unfoldable pub reset : Channel → Channel
 reset c =
-    record { status = st.reset (c .status); registers = reg.opened; sequencer = seq.opened; readbacks = rb.opened; adc = noneArrived; download = noDownload; commands = cmd.opened }
+    record { status = st.reset (c .status); registers = reg.opened; sequencer = seq.opened; readbacks = rb.opened; adc = noneArrived; download = noDownload; outcome = tick.NoTick; commands = cmd.opened }
 
 abbrev pub withStatus : Channel → Status → Channel
 withStatus c s =
-    record { status = s; registers = c .registers; sequencer = c .sequencer; readbacks = c .readbacks; adc = c .adc; download = c .download; commands = c .commands }
+    record { status = s; registers = c .registers; sequencer = c .sequencer; readbacks = c .readbacks; adc = c .adc; download = c .download; outcome = c .outcome; commands = c .commands }
 
 abbrev pub withRegisters : Channel → Registers → Channel
 withRegisters c r =
-    record { status = c .status; registers = r; sequencer = c .sequencer; readbacks = c .readbacks; adc = c .adc; download = c .download; commands = c .commands }
+    record { status = c .status; registers = r; sequencer = c .sequencer; readbacks = c .readbacks; adc = c .adc; download = c .download; outcome = c .outcome; commands = c .commands }
 
 abbrev pub withSequencer : Channel → Sequencer → Channel
 withSequencer c s =
-    record { status = c .status; registers = c .registers; sequencer = s; readbacks = c .readbacks; adc = c .adc; download = c .download; commands = c .commands }
+    record { status = c .status; registers = c .registers; sequencer = s; readbacks = c .readbacks; adc = c .adc; download = c .download; outcome = c .outcome; commands = c .commands }
 
 abbrev pub withReadbacks : Channel → Readbacks → Channel
 withReadbacks c b =
-    record { status = c .status; registers = c .registers; sequencer = c .sequencer; readbacks = b; adc = c .adc; download = c .download; commands = c .commands }
+    record { status = c .status; registers = c .registers; sequencer = c .sequencer; readbacks = b; adc = c .adc; download = c .download; outcome = c .outcome; commands = c .commands }
 
 abbrev pub withAdc : Channel → AdcWords → Channel
 withAdc c w =
-    record { status = c .status; registers = c .registers; sequencer = c .sequencer; readbacks = c .readbacks; adc = w; download = c .download; commands = c .commands }
+    record { status = c .status; registers = c .registers; sequencer = c .sequencer; readbacks = c .readbacks; adc = w; download = c .download; outcome = c .outcome; commands = c .commands }
 
 abbrev pub withDownload : Channel → Download → Channel
 withDownload c d =
-    record { status = c .status; registers = c .registers; sequencer = c .sequencer; readbacks = c .readbacks; adc = c .adc; download = d; commands = c .commands }
+    record { status = c .status; registers = c .registers; sequencer = c .sequencer; readbacks = c .readbacks; adc = c .adc; download = d; outcome = c .outcome; commands = c .commands }
+
+abbrev pub withOutcome : Channel → TickOutcome → Channel
+withOutcome c x =
+    record { status = c .status; registers = c .registers; sequencer = c .sequencer; readbacks = c .readbacks; adc = c .adc; download = c .download; outcome = x; commands = c .commands }
 
 abbrev pub withCommands : Channel → CommandFrames → Channel
 withCommands c f =
-    record { status = c .status; registers = c .registers; sequencer = c .sequencer; readbacks = c .readbacks; adc = c .adc; download = c .download; commands = f }
+    record { status = c .status; registers = c .registers; sequencer = c .sequencer; readbacks = c .readbacks; adc = c .adc; download = c .download; outcome = c .outcome; commands = f }
 
 -- a condition happens
 abbrev pub conditionLatched : Channel → ℕ → Channel

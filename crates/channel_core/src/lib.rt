@@ -12,6 +12,7 @@ use sequencer::LastSend;
 use sequencer::Sequencer;
 use sequencer::Transmission;
 use status::Status;
+use tick_outcome::TickOutcome;
 ghost use mathlib.Core.Path.{_≡_};
 ghost use Prim.Native.Nat.{_%_};
 ghost use lib.ListN.{getD};
@@ -28,6 +29,8 @@ pub struct Channel {
     pub readbacks: Readbacks,
     pub adc: AdcWords,
     pub download: Download,
+    // Of its last tick.
+    pub outcome: TickOutcome,
     pub commands: CommandFrames,
 }
 
@@ -160,6 +163,7 @@ impl Channel {
             readbacks: Readbacks::opened(),
             adc: AdcWords::none(),
             download: Download::none(),
+            outcome: TickOutcome::NoTick,
             commands: CommandFrames::opened(),
         }
     }
@@ -176,6 +180,7 @@ impl Channel {
             readbacks: Readbacks::opened(),
             adc: AdcWords::none(),
             download: Download::none(),
+            outcome: TickOutcome::NoTick,
             commands: CommandFrames::opened(),
         }
     }
@@ -217,6 +222,7 @@ impl Channel {
         let sequencer = self.sequencer;
         let readbacks = self.readbacks;
         let adc = self.adc;
+        let outcome = self.outcome;
         let commands = self.commands;
         Channel {
             status: early_ended(status, sequencer).latched(status::GROUP_END),
@@ -225,6 +231,7 @@ impl Channel {
             readbacks: readbacks.group_ended(),
             adc: adc,
             download: Download::none(),
+            outcome: outcome,
             commands: commands.group_ended(),
         }
     }

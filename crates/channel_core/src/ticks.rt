@@ -1,14 +1,27 @@
-// One tick of a channel: the sequencer's, what a send latches and shows, and a command frame that is due.
+// One tick of a channel: the sequencer's, what a send latches and shows, a command frame that is due, and what the tick did.
 use crate::Channel;
+use crate::Line;
 use crate::Ticked;
 use crate::send_line;
 use crate::send_status;
 use crate::sends;
 use crate::setpoint_place;
 use crate::word_at;
+use tick_outcome::TickOutcome;
 ghost use mathlib.Core.Path.{_≡_};
-ghost use Rattle.channel_core.specs.Answers.{lineOf};
+ghost use Rattle.channel_core.specs.Answers.{lineOf, isFrame};
+ghost use Rattle.channel_core.specs.State.{withOutcome};
 ghost use Rattle.channel_core.specs.Behaviour.{dueOf, tickOf, tickAnswer};
+
+// Whether a tick sends a frame, a setpoint's or a command frame.
+fn is_frame(line: Line) -> bool
+    ensures { λ r. ⌜ r ≡ isFrame (lineOf line) ⌝ }
+{
+    match line {
+        Line::Silent => false,
+        Line::Frame(_) => true,
+    }
+}
 
 impl Channel {
     // The word at the index due, of the current user's active buffer.
@@ -24,6 +37,29 @@ impl Channel {
             sequencer.index,
         );
         word_at(setpoints, at)
+    }
+
+    // The same, with what its last tick did.
+    pub fn with_outcome(self, outcome: TickOutcome) -> Channel
+        ensures { λ r. ⌜ r ≡ withOutcome self outcome ⌝ }
+    {
+        let status = self.status;
+        let registers = self.registers;
+        let sequencer = self.sequencer;
+        let readbacks = self.readbacks;
+        let adc = self.adc;
+        let download = self.download;
+        let commands = self.commands;
+        Channel {
+            status: status,
+            registers: registers,
+            sequencer: sequencer,
+            readbacks: readbacks,
+            adc: adc,
+            download: download,
+            outcome: outcome,
+            commands: commands,
+        }
     }
 
     pub fn tick(self, setpoints: &[u32], n: u32, user: u8) -> Ticked
@@ -45,9 +81,10 @@ impl Channel {
         c.status = send_status(status, sequencer.last, sent);
         c.sequencer = next;
         c.commands = commands.ticked(sends(sent));
+        let line = send_line(registers.id, commands, sent);
         Ticked {
-            channel: c,
-            line: send_line(registers.id, commands, sent),
+            channel: c.with_outcome(tick_outcome::outcome(is_frame(line), sequencer)),
+            line: line,
         }
     }
 }

@@ -9,12 +9,13 @@ use Rattle.sequencer.specs.declared.Sequencer.{Sequencer}
 use Rattle.sequencer.specs.declared.Transmission.{Transmission}
 use Rattle.sequencer.specs.declared.Transmission.the-variants as transmission
 use Rattle.sequencer.specs.Playing.{withMissing, missingWith}
+use Rattle.tick_outcome.specs.declared.TickOutcome.the-variants as tick
 use Rattle.command_frames.specs.Commanding.{isDue, commandFrame, withReceiving}
 use Rattle.command_frames.specs.Commanding as cmd
 use Rattle.channel_core.specs.declared.Channel.{Channel}
 use Rattle.channel_core.specs.Answers.{Answer, isFrame}
 use Rattle.channel_core.specs.Answers as ans
-use Rattle.channel_core.specs.State.{withStatus, withSequencer, withCommands}
+use Rattle.channel_core.specs.State.{withStatus, withSequencer, withOutcome, withCommands}
 use Rattle.channel_core.specs.Behaviour.{latchedBy, tickOf, tickAnswer}
 use Rattle.channel_ticks.specs.Quiet.{quietTicks}
 
@@ -59,7 +60,7 @@ abbrev pub conditionAfter : Transmission → ℕ → ℕ
 conditionAfter transmission.Nothing k = k
 conditionAfter (transmission.Word word j) k = cond (eqb j 0) k j
 
--- a channel after ticks with no command frame due: the condition of their words, their sequencer, whose count of missing readbacks has only what they
+-- a channel after ticks with no command frame due, but for what the last of them did: the condition of their words, their sequencer, whose count of missing readbacks has only what they
 -- found, and the number of their frames
 abbrev pub afterTicks : Channel → ℕ → Sequencer → ℕ → Channel
 afterTicks c condition q frames =
@@ -75,7 +76,7 @@ abbrev pub sendsNext : Channel → Bool
 sendsNext c = eqb (quietTicks (c .sequencer)) 0
 
 -- the next tick's share of the command frames done, before the rest of it, where one is due (`command-first` of proofs/TicksInRow: the tick then comes
--- to the same)
+-- to the same, but for what it did: `ticks-command` there)
 abbrev pub commandFirst : Channel → Channel
 commandFirst c = cond (isDue (c .commands .waiting)) (withCommands c (cmd.ticked (c .commands) (sendsNext c))) c
 
@@ -88,3 +89,7 @@ commandFramesFirst c = cond (commandLeaves c) 1 0
 
 abbrev pub withCommandFrame : Channel → List ℕ → List ℕ
 withCommandFrame c l = cond (commandLeaves c) (set l 0 (commandFrame (c .commands))) l
+
+-- after k ticks: where there is one, and a command frame left on it (so `frames` is 1), that tick sent
+abbrev pub sentIf : Channel → (frames k : ℕ) → Channel
+sentIf c frames k = cond (eqb frames 1 && eqb k 1) (withOutcome c tick.Sent) c

@@ -9,6 +9,7 @@ use channel_core::word_at;
 use quiet::least;
 use sequencer::Sequencer;
 use sequencer::Transmission;
+use tick_outcome::TickOutcome;
 ghost use mathlib.Core.Path.{_≡_};
 ghost use Prim.Native.Nat.{_+_, _<_, _≤_, _%_};
 ghost use lib.ListN.{set};
@@ -17,9 +18,11 @@ ghost use Rattle.sequencer.specs.Playing.{ticked, withMissing};
 ghost use Rattle.sequencer.specs.Runs.{asNumber};
 ghost use mathlib.Core.Bool.{false};
 ghost use Rattle.command_frames.specs.Commanding.{isDue};
-ghost use Rattle.channel_core.specs.Behaviour.{sendFrame};
+ghost use Rattle.tick_outcome.specs.Outcomes.{outcome};
+ghost use Rattle.channel_core.specs.State.{withOutcome};
+ghost use Rattle.channel_core.specs.Behaviour.{isSetpoint, sendFrame};
 ghost use Rattle.channel_ticks.specs.Quiet.{afterQuiet};
-ghost use Rattle.channel_ticks.specs.Ticks.{ticksOf, framesIn, withFrame, framesAt, conditionAfter, afterTicks, commandFirst, commandFramesFirst, withCommandFrame, receivingAfter};
+ghost use Rattle.channel_ticks.specs.Ticks.{ticksOf, framesIn, withFrame, framesAt, conditionAfter, afterTicks, commandFirst, commandFramesFirst, withCommandFrame, receivingAfter, sentIf};
 
 // A channel after ticks in a row, and how many of them answered a frame.
 pub struct Advanced {
@@ -35,11 +38,12 @@ struct Begun {
 
 // What the rest of the ticks come to so far: the condition of their words (0: none; a word with one is repeated, so there is one at most), the sequencer,
 // whose count of missing readbacks is only what they find, and the number of their frames. What they latch follows from that, and so does whether replies
-// still go to E4-FA: a field more here, or the status, would slow the loop down.
+// still go to E4-FA: the status here would slow the loop down. And what the last tick did of those that were not skipped.
 struct Progress {
     pub condition: u8,
     pub sequencer: Sequencer,
     pub frames: u32,
+    pub outcome: TickOutcome,
 }
 
 // A frame put at the first place, if there is one.
@@ -114,7 +118,7 @@ fn tick(
     id: u8,
 ) -> Progress
     requires { ⌜ progress .frames < 4294967295 ⌝ }
-    ensures { λ r. ⌜ (r .condition ≡ conditionAfter (ticked (progress .sequencer) due n period id .transmission) (progress .condition)) × (r .sequencer ≡ ticked (progress .sequencer) due n period id .sequencer) × (r .frames ≡ progress .frames + asNumber (ticked (progress .sequencer) due n period id .transmission)) × (now (captured .exit) ≡ withFrame (sendFrame id (ticked (progress .sequencer) due n period id .transmission)) at (now (captured .entry))) ⌝ }
+    ensures { λ r. ⌜ (r .condition ≡ conditionAfter (ticked (progress .sequencer) due n period id .transmission) (progress .condition)) × (r .sequencer ≡ ticked (progress .sequencer) due n period id .sequencer) × (r .frames ≡ progress .frames + asNumber (ticked (progress .sequencer) due n period id .transmission)) × (r .outcome ≡ outcome (isSetpoint (ticked (progress .sequencer) due n period id .transmission)) (progress .sequencer)) × (now (captured .exit) ≡ withFrame (sendFrame id (ticked (progress .sequencer) due n period id .transmission)) at (now (captured .entry))) ⌝ }
 {
     let sequencer = progress.sequencer;
     let ticked = sequencer.tick(due, n, period, id);
@@ -126,6 +130,7 @@ fn tick(
             condition: condition,
             sequencer: next,
             frames: progress.frames,
+            outcome: tick_outcome::silence(sequencer),
         },
         Transmission::Word { word, condition: _ } => {
             capture(captured, at, id, word);
@@ -133,12 +138,13 @@ fn tick(
                 condition: condition,
                 sequencer: next,
                 frames: progress.frames + 1,
+                outcome: TickOutcome::Sent,
             }
         }
     }
 }
 
-// So many quiet ticks.
+// So many quiet ticks; what the last of them did is not said.
 fn skip(progress: Progress, count: u64) -> Progress
     ensures { λ r. ⌜ (r .condition ≡ progress .condition) × (r .sequencer ≡ afterQuiet (progress .sequencer) count) × (r .frames ≡ progress .frames) ⌝ }
 {
@@ -150,13 +156,15 @@ fn skip(progress: Progress, count: u64) -> Progress
 
 // A channel before the first of them.
 fn begin(c: Channel) -> Progress
-    ensures { λ r. ⌜ (r .condition ≡ 0) × (r .sequencer ≡ withMissing (c .sequencer) 0) × (r .frames ≡ 0) ⌝ }
+    ensures { λ r. ⌜ (r .condition ≡ 0) × (r .sequencer ≡ withMissing (c .sequencer) 0) × (r .frames ≡ 0) × (r .outcome ≡ c .outcome) ⌝ }
 {
     let sequencer = c.sequencer;
+    let outcome = c.outcome;
     Progress {
         condition: 0,
         sequencer: sequencer.missing_cleared(),
         frames: 0,
+        outcome: outcome,
     }
 }
 
@@ -172,7 +180,7 @@ fn receiving_after(receiving: bool, frames: u32) -> bool
 
 // A channel after the last of them.
 fn finish(c: Channel, progress: Progress) -> Advanced
-    ensures { λ r. ⌜ (r .channel ≡ afterTicks c (progress .condition) (progress .sequencer) (progress .frames)) × (r .frames ≡ progress .frames) × (c .sequencer .missing ≤ 255) ⌝ }
+    ensures { λ r. ⌜ (r .channel ≡ withOutcome (afterTicks c (progress .condition) (progress .sequencer) (progress .frames)) (progress .outcome)) × (r .frames ≡ progress .frames) × (c .sequencer .missing ≤ 255) ⌝ }
 {
     let status = c.status;
     let before = c.sequencer;
@@ -183,8 +191,9 @@ fn finish(c: Channel, progress: Progress) -> Advanced
     next.status = latched_by(status, sequencer.missing, progress.condition);
     next.sequencer = sequencer.missing_after(before.missing);
     next.commands = commands;
+    let outcome = progress.outcome;
     Advanced {
-        channel: next,
+        channel: next.with_outcome(outcome),
         frames: progress.frames,
     }
 }
@@ -210,17 +219,28 @@ fn setpoint_ticks(
     let mut done: u32 = 0;
     while done < count {
         let sequencer = progress.sequencer;
-        let quiet = least(quiet::quiet_ticks(sequencer), (count - done) as u64);
+        // The last tick is taken by itself, for what it did.
+        let quiet = least(quiet::quiet_ticks(sequencer), (count - done - 1) as u64);
         progress = skip(progress, quiet);
         done += quiet as u32;
-        if done < count {
-            let ready = progress.sequencer;
-            let due = word_at(setpoints, setpoint_place(at, second, n, ready.index));
-            progress = tick(progress, due, n, period, captured, done as usize, id);
-            done += 1;
-        }
+        let ready = progress.sequencer;
+        let due = word_at(setpoints, setpoint_place(at, second, n, ready.index));
+        progress = tick(progress, due, n, period, captured, done as usize, id);
+        done += 1;
     }
     finish(c, progress)
+}
+
+// After so many ticks: where there is one, and a command frame left on it, that tick sent.
+fn sent_if(c: Channel, frames: u32, count: u32) -> Channel
+    ensures { λ r. ⌜ r ≡ sentIf c frames count ⌝ }
+{
+    if frames == 1 {
+        if count == 1 {
+            return c.with_outcome(TickOutcome::Sent);
+        }
+    }
+    c
 }
 
 // So many ticks over the channel's own setpoints, their frames captured: that of tick k at k - 1, as far as the slice reaches.
@@ -245,7 +265,7 @@ pub fn ticks(
     let rest = setpoint_ticks(ready, setpoints, n, user, count, captured);
     let last = rest.channel;
     Advanced {
-        channel: last,
+        channel: sent_if(last, begun.frames, count),
         frames: begun.frames + rest.frames,
     }
 }

@@ -1,8 +1,9 @@
-// The calls that read of a channel by its number, by role: retired readbacks, the readings of the last send, and downloads. What is lent, the number, whether the role may read, then the board's own call; a part is empty where any of these refuses it, so there the right alone is asked.
+// The calls that read of a channel by its number, by role: retired readbacks, the readings of the last send, what the last tick did, and downloads. What is lent, the number, whether the role may read, then the board's own call; a part is empty where any of these refuses it, so there the right alone is asked.
 pub mod download;
 
 use access_control::GuardedBoard;
 use board_readings::Measurement;
+use board_readings::TickReport;
 use channel::PartLength;
 use permissions::Role;
 use refusal::Verdict;
@@ -10,7 +11,7 @@ ghost use mathlib.Core.Path.{_≡_};
 ghost use Rattle.channel.specs.Answers.{lengthOf};
 ghost use Rattle.channel.specs.OneChannel as which;
 ghost use Rattle.board.specs.Answers as answers;
-ghost use Rattle.board_readings.specs.Answers.{measurementOf};
+ghost use Rattle.board_readings.specs.Answers.{measurementOf, tickReportOf};
 ghost use Rattle.isolation.specs.Calls.{query, none, buffers};
 ghost use Rattle.access_control.specs.Guarding.{answerTo, partIn};
 
@@ -66,5 +67,21 @@ pub fn last_readings(g: GuardedBoard, role: Role, number: u32) -> Measurement
     match verdict {
         Verdict::Allowed => board_readings::last_readings(board, number),
         Verdict::Refused(reason) => Measurement::Refused(reason),
+    }
+}
+
+// What the named channel's last tick did.
+pub fn last_tick(g: GuardedBoard, role: Role, number: u32) -> TickReport
+    ensures { λ r. ⌜ answers.one (tickReportOf r) ≡ answerTo g role (query number which.lastTick) none ⌝ }
+{
+    let board = g.board;
+    let rights = g.rights;
+    let verdict = access_control::check_permission(
+        access_control::check_channel(Verdict::Allowed, number),
+        rights.may_read(role, number),
+    );
+    match verdict {
+        Verdict::Allowed => board_readings::last_tick(board, number),
+        Verdict::Refused(reason) => TickReport::Refused(reason),
     }
 }

@@ -58,6 +58,7 @@ unfolding readingsAnswer
 query-plain o call.retired = (refl, refl, refl)
 query-plain o call.retiredLength = (refl, refl, refl)
 query-plain o call.readings = (refl, refl, refl)
+query-plain o call.lastTick = (refl, refl, refl)
 query-plain o (call.portion index size) = (refl, refl, refl)
 query-plain o (call.portionLength index size) = (refl, refl, refl)
 

@@ -9,23 +9,17 @@ use lib.ListN.{length, take, drop, length-drop}
 use lib.Seq.{length-take-le}
 use lib.Dec.{eqb, leb, ltb}
 use borrow.Author.Tests.{eq-eqb, leb-true, leb-false, lt-ltb, le-ltb}
-use Rattle.frame.specs.Frames.{Reading, read, crcRight}
-use Rattle.frame.specs.Frames as frame
 use Rattle.status.specs.Bits.{bitAt}
 use Rattle.registers.specs.Map.{secondActive, readbackPlace, triggersOf, groupEndEvent}
 use Rattle.downloads.specs.declared.Download.{Download}
 use Rattle.downloads.specs.Portions.{noDownload, downloadOf}
 use Rattle.downloads.specs.Portions as portions
-use Rattle.readback.specs.declared.Disposition.{Disposition}
-use Rattle.readback.specs.declared.Disposition.the-variants as disposition
 use Rattle.readback.specs.Storing.{retiredPart}
-use Rattle.command_frames.specs.Commanding.{takes}
 use Rattle.channel_core.specs.declared.Channel.{Channel}
 use Rattle.channel_core.specs.Answers.{Answer, isRefusal, refused, part, partLength}
 use Rattle.channel_core.specs.State.{reset}
 use Rattle.channel_core.specs.State as state
 use Rattle.channel_core.specs.Behaviour.{groupEnded, endedIf, userChanged, tickOf}
-use Rattle.channel_replies.specs.Replying.{dispositionNow, receivedChannel, replyAs, replyOf}
 use Rattle.channel_registers.specs.Calls.{registerEffect}
 use Rattle.channel.specs.Calls.{armedOf, disarmedOf}
 use Rattle.channel.specs.Downloads.{downloadOpened}
@@ -42,7 +36,7 @@ use Rattle.histories.proofs.Cases.{by-offset}
 use Rattle.histories.proofs.Depths.{depths-step, depths-kept}
 use Rattle.histories.proofs.Holding.{HoldsIn}
 use Rattle.histories.proofs.Keeping.{holds-step, holds-over, words-long, retired-held, retires}
-use Rattle.histories.proofs.Leaves.{leaves-event, leaves-command, leaves-read, leaves-main}
+use Rattle.histories.proofs.Leaves.{leaves-event, leaves-command, leaves-read, leaves-main, leaves-reply}
 use Rattle.histories.proofs.Parts.{opened-range}
 use Rattle.histories.proofs.Ranges.{stays, channel-step, channel-from}
 use Rattle.histories.proofs.Refusing.{by-refusal, accepted-response}
@@ -71,20 +65,6 @@ register-download c offset value =
     reset-download true = refl
     reset-download false = refl
 
-reply-download : (c : Channel) (m f : ℕ) → replyOf c m f .download ≡ c .download
-unfolding replyOf
-reply-download c m f = go (read f)
-  where
-    disposed : (d : Disposition) (right : Bool) (word : ℕ) → receivedChannel d c m right word .download ≡ c .download
-    disposed disposition.Unsolicited right word = refl
-    disposed disposition.Lost right word = refl
-    disposed disposition.Kept right word = refl
-
-    go : (g : Reading) → replyAs g c m .download ≡ c .download
-    go (frame.refused k) = refl
-    go (frame.fields id word aux crc) =
-        either (λ (x : Channel). x .download ≡ c .download) (takes (c .commands)) refl (disposed (dispositionNow c m) (crcRight id word aux crc) word)
-
 effect-download : (o : OneChannel) (k : ChannelCall)
     → Stepped (o .channel) (asks o k .groupEnd) (asks o k .reset) (asks o k .opens) (effect o k .channel)
 unfolding effect armedOf disarmedOf downloadOpened tickOf userChanged
@@ -94,7 +74,7 @@ effect-download o (call.writeSetpoint lent user buffer index word) = refl
 effect-download o call.arm = refl
 effect-download o call.disarm = refl
 effect-download o call.openDownload = refl
-effect-download o (call.reply lent f) = reply-download (o .channel) (o .m) f
+effect-download o (call.reply lent f) = leaves-reply (o .channel) (o .m) f .download
 effect-download o (call.query which one two) = refl
 effect-download o (call.tick lent) = refl
 effect-download o (call.event lent code) =

@@ -31,3 +31,4 @@ pub mod Brought
 pub mod Tags
 pub mod Readings
 pub mod Downloads
+pub mod LastTicks

@@ -32,8 +32,9 @@ use Rattle.command_frames.specs.declared.CommandFrames.{CommandFrames}
 use Rattle.command_frames.specs.Commanding.{isDue, takes, received}
 use Rattle.command_frames.specs.Commanding as cmd
 use Rattle.command_frames.proofs.Laws.{taken-few}
+use Rattle.tick_outcome.specs.declared.TickOutcome.{TickOutcome}
 use Rattle.channel_core.specs.declared.Channel.{Channel}
-use Rattle.channel_core.specs.State.{opened, reset, withStatus, withRegisters, withSequencer, withCommands}
+use Rattle.channel_core.specs.State.{opened, reset, withStatus, withRegisters, withSequencer, withOutcome, withCommands}
 use Rattle.channel_core.specs.Behaviour.{started, startedIf, endedIf, resumedIf, taggedIf, resumedOn, eventOf, commanded, groupEnded, earlyEnded, userChanged, conditionStatus, sendStatus, isSetpoint, dueOf, playedOf, tickOf}
 use Rattle.channel_replies.specs.Replying.{crcStatus, dispositionNow, receivedChannel, replyAs, replyOf}
 use Rattle.channel.specs.Calls.{disarmedOf}
@@ -205,6 +206,9 @@ module _ (m : ℕ) where
   with-commands : (c : Channel) (f : CommandFrames) → CommandsInRange f → ChannelInRange m c → ChannelInRange m (withCommands c f)
   with-commands c f h k = record { status = k .status; registers = k .registers; readbacks = k .readbacks; adc = k .adc; download = k .download; commands = h }
 
+  with-outcome : (c : Channel) (x : TickOutcome) → ChannelInRange m c → ChannelInRange m (withOutcome c x)
+  with-outcome c x k = record { status = k .status; registers = k .registers; readbacks = k .readbacks; adc = k .adc; download = k .download; commands = k .commands }
+
   pub opened-range : ChannelInRange m opened
   unfolding opened
   opened-range =
@@ -284,8 +288,9 @@ module _ (m : ℕ) where
   unfolding tickOf
   tick-range c s n user h =
       let l = plays-ticked (c .sequencer) (dueOf c s n user) n (periodOf (c .registers .clock)) (c .registers .id) .latches in
-      with-commands _ _ (ticked-commands (c .commands) (isSetpoint (playedOf c s n user .transmission)) (h .commands))
-      (with-sequencer _ _ (with-status c _ (send-range (c .status) (c .sequencer .last) (playedOf c s n user .transmission) l (h .status)) h))
+      with-outcome _ _
+      (with-commands _ _ (ticked-commands (c .commands) (isSetpoint (playedOf c s n user .transmission)) (h .commands))
+      (with-sequencer _ _ (with-status c _ (send-range (c .status) (c .sequencer .last) (playedOf c s n user .transmission) l (h .status)) h)))
 
   pub disarm-range : (c : Channel) → ChannelInRange m c → ChannelInRange m (disarmedOf c)
   unfolding disarmedOf

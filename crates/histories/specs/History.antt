@@ -2,7 +2,7 @@
 -- answered. Laws over histories are stated with these.
 -- Document 02, card 1: which of the frames are command frames, and which replies go to E4–FA, told by calls and answers. Card 2: the Frame ID that a
 -- frame carries, read from the frame, and which register a call reads. Card 6: what a call makes of tags (specs/TagChanges). Card 7: a reply as an
--- ADC word, by its own frame. Card 8: which calls open a download. Of the state before a call only the code of the Group End event (which
+-- ADC word, by its own frame. Card 8: which calls open a download. Card 10: which are ticks. Of the state before a call only the code of the Group End event (which
 -- `TagsTold`, specs/Tags, has told by writes), the current user, and what a stored word says of the last send are looked at.
 use Prim.Native.Nat.{ℕ, _+_}
 use mathlib.Core.Bool.{Bool, true, false, cond, not, _&&_, _||_}
@@ -95,6 +95,8 @@ pub record Asks : Type 0 where
   pub idle : Bool
   -- the opening of a download
   pub opens : Bool
+  -- a tick
+  pub ticks : Bool
   -- the word that a reply brings
   pub word : List ℕ
   -- that reply as an ADC word, stored or not
@@ -109,10 +111,10 @@ pub record Asks : Type 0 where
 abbrev pub readsNothing : ℕ → Bool
 readsNothing offset = false
 
--- none of these but what it makes of command frames and tags: the call ends no group, resets and idles nothing, opens no download, brings no word
--- and reads no register
+-- none of these but what it makes of command frames and tags: the call ends no group, resets and idles nothing, opens no download, is no tick, brings
+-- no word and reads no register
 abbrev pub changing : CommandChange → TagChange → Asks
-changing f g = record { groupEnd = false; reset = false; idle = false; opens = false; word = []; adc = noAdc; reads = readsNothing; commands = f; tags = g }
+changing f g = record { groupEnd = false; reset = false; idle = false; opens = false; ticks = false; word = []; adc = noAdc; reads = readsNothing; commands = f; tags = g }
 
 -- none of these, whatever else it does
 abbrev pub asksNothing : Asks
@@ -121,21 +123,25 @@ asksNothing = changing leavesCommands leavesTags
 -- one of these alone
 abbrev pub groupEndIf : Bool → TagChange → Asks
 groupEndIf on g =
-    record { groupEnd = on; reset = false; idle = false; opens = false; word = []; adc = noAdc; reads = readsNothing; commands = λ a f. cond on (cmd.groupEnded f) f; tags = g }
+    record { groupEnd = on; reset = false; idle = false; opens = false; ticks = false; word = []; adc = noAdc; reads = readsNothing; commands = λ a f. cond on (cmd.groupEnded f) f; tags = g }
 
 abbrev pub idleIf : Bool → CommandChange → TagChange → Asks
-idleIf on f g = record { groupEnd = false; reset = false; idle = on; opens = false; word = []; adc = noAdc; reads = readsNothing; commands = f; tags = g }
+idleIf on f g = record { groupEnd = false; reset = false; idle = on; opens = false; ticks = false; word = []; adc = noAdc; reads = readsNothing; commands = f; tags = g }
 
 abbrev pub bringing : List ℕ → (Bool → AdcWord) → CommandChange → Asks
-bringing word a f = record { groupEnd = false; reset = false; idle = false; opens = false; word = word; adc = a; reads = readsNothing; commands = f; tags = leavesTags }
+bringing word a f = record { groupEnd = false; reset = false; idle = false; opens = false; ticks = false; word = word; adc = a; reads = readsNothing; commands = f; tags = leavesTags }
 
 abbrev pub reading : ℕ → Asks
 reading offset =
-    record { groupEnd = false; reset = false; idle = false; opens = false; word = []; adc = noAdc; reads = eqb offset; commands = leavesCommands; tags = leavesTags }
+    record { groupEnd = false; reset = false; idle = false; opens = false; ticks = false; word = []; adc = noAdc; reads = eqb offset; commands = leavesCommands; tags = leavesTags }
 
 abbrev pub openingDownload : Asks
 openingDownload =
-    record { groupEnd = false; reset = false; idle = false; opens = true; word = []; adc = noAdc; reads = readsNothing; commands = leavesCommands; tags = leavesTags }
+    record { groupEnd = false; reset = false; idle = false; opens = true; ticks = false; word = []; adc = noAdc; reads = readsNothing; commands = leavesCommands; tags = leavesTags }
+
+abbrev pub ticking : Asks
+ticking =
+    record { groupEnd = false; reset = false; idle = false; opens = false; ticks = true; word = []; adc = noAdc; reads = readsNothing; commands = tickedBy; tags = leavesTags }
 
 abbrev pub asks : OneChannel → ChannelCall → Asks
 asks o (call.writeRegister lent offset value) =
@@ -144,6 +150,7 @@ asks o (call.writeRegister lent offset value) =
       reset = eqb offset 0x06 && bitAt value 0;
       idle = false;
       opens = false;
+      ticks = false;
       word = [];
       adc = noAdc;
       reads = readsNothing;
@@ -157,7 +164,7 @@ asks o call.disarm = idleIf true (λ a f. cmd.dropped f) disarmedTags
 asks o call.openDownload = openingDownload
 asks o (call.reply lent f) = bringing (replyWord o (read f)) (adcIn (read f)) (repliedTo (read f))
 asks o (call.query which one two) = asksNothing
-asks o (call.tick lent) = changing tickedBy leavesTags
+asks o (call.tick lent) = ticking
 asks o (call.event lent code) =
     groupEndIf (triggersOf (o .channel .registers) groupEndEvent code) (eventTags code)
 asks o (call.changeUser user) = idleIf (not (eqb user (o .user))) leavesCommands leavesTags
@@ -184,6 +191,10 @@ stops e = cond (isRefused e) false (asks (e .before) (e .call) .idle)
 -- the opening of a download that took place
 abbrev pub opensDownload : Entry → Bool
 opensDownload e = cond (isRefused e) false (asks (e .before) (e .call) .opens)
+
+-- a tick that took place
+abbrev pub makesTick : Entry → Bool
+makesTick e = cond (isRefused e) false (asks (e .before) (e .call) .ticks)
 
 -- a read of the register at this offset that took place
 abbrev pub readsAt : ℕ → Entry → Bool

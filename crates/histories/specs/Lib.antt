@@ -13,3 +13,4 @@ pub mod EndWords
 pub mod Tags
 pub mod Readings
 pub mod Downloads
+pub mod LastTicks

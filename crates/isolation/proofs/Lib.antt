@@ -19,3 +19,4 @@ pub mod EndWords
 pub mod Marks
 pub mod Readings
 pub mod Downloads
+pub mod LastTicks

@@ -177,10 +177,11 @@ module _ (w : World) (c : ℕ) (h : Number c) where
 
   pub observe-query : (q : Query) (l : Lent) → ((refused (w .board) (query c q) l ≡ true) ⊎ (l ≡ given w (query c q)))
       → answerFor c (wld.answer (w .board) (query c q) l) ≡ response (view c w) (to.query q (length (first l)) (length (second l)))
-  unfolding wld.answer channels.retiredAnswer channels.retiredLength readings.readingsAnswer downloads.portionAnswer downloads.portionLength response refusalOf answer
+  unfolding wld.answer channels.retiredAnswer channels.retiredLength readings.readingsAnswer readings.lastTickAnswer downloads.portionAnswer downloads.portionLength response refusalOf answer
   observe-query to.retired l f = retired-same l ans.part (λ s. refl) f
   observe-query to.retiredLength l f = retired-same l (λ s. ans.partLength (length s)) (λ s. refl) f
   observe-query to.readings l f = rw (in-range c h)
+  observe-query to.lastTick l f = rw (in-range c h)
   observe-query (to.portion i n) l f = portion-same i n l ans.part (λ s. refl) f
   observe-query (to.portionLength i n) l f = portion-same i n l (λ s. ans.partLength (length s)) (λ s. refl) f
 

@@ -17,7 +17,7 @@ use Rattle.board_state.specs.Checks.{setpointsFit}
 use Rattle.board_state.specs.Parts.{own}
 use Rattle.board.specs.Calls.{tickBoardAnswer}
 use Rattle.board_channels.specs.Calls.{setpointAnswer}
-use Rattle.board_readings.specs.Calls.{readingsAnswer}
+use Rattle.board_readings.specs.Calls.{readingsAnswer, lastTickAnswer}
 use Rattle.board_registers.specs.Calls.{readAnswer}
 use Rattle.board.specs.Worlds.{World}
 use Rattle.isolation.specs.Calls.{writeSetpoint, tick, Lent, none, words, first, answer, refused, given, worldAfter, opening}
@@ -38,6 +38,10 @@ module _ (c : ℕ) (h : Number c) (w : World) where
   unfolding answer
   readings-shown = observe-query w c h to.readings none (inr refl)
 
+  last-tick-shown : lastTickAnswer (w .board) c ≡ response (view c w) (to.query to.lastTick 0 0)
+  unfolding answer
+  last-tick-shown = observe-query w c h to.lastTick none (inr refl)
+
   view-shown : Shows (w .board .n) (w .board .m) c w (view c w)
   view-shown =
       record {
@@ -49,6 +53,7 @@ module _ (c : ℕ) (h : Number c) (w : World) where
         tagged = refl;
         download = refl;
         readings = readings-shown;
+        lastTick = last-tick-shown;
         interruptStatus = refl;
         pollingStatus = refl;
         mainInterrupt = status-bit (w .board) false c h;

@@ -8,7 +8,7 @@ use mathlib.Core.Bool.{Bool, true, cond}
 use lib.ListN.{length, take, drop}
 use Rattle.channel_core.specs.Answers.{Answer}
 use Rattle.channel_core.specs.Answers as ans
-use Rattle.channel.specs.OneChannel.{Query, retired, retiredLength, readings, portion, portionLength}
+use Rattle.channel.specs.OneChannel.{Query, retired, retiredLength, readings, portion, portionLength, lastTick}
 use Rattle.board_state.specs.declared.Board.{Board}
 use Rattle.board_state.specs.Main.{levelOf}
 use Rattle.board_state.specs.Parts.{own}
@@ -17,12 +17,12 @@ use Rattle.board.specs.Answers.{BoardAnswer, one, refuses}
 use Rattle.board.specs.Calls as board
 use Rattle.board_channels.specs.Calls as channels
 use Rattle.board_downloads.specs.Calls as downloads
-use Rattle.board_readings.specs.Calls.{readingsAnswer}
+use Rattle.board_readings.specs.Calls.{readingsAnswer, lastTickAnswer}
 use Rattle.board_registers.specs.Calls as registers
 
 -- "In the list stand the calls under Calls, the retired call's twin, and, from its request on, each call on the board that a later request adds": a call's
--- arguments alone. `query` are those that name a channel and change nothing in any state: retired readbacks and its twin, card 7's readings, and
--- card 8's portions and their twin
+-- arguments alone. `query` are those that name a channel and change nothing in any state: retired readbacks and its twin, card 7's readings,
+-- card 8's portions and their twin, and card 10's: what the last tick did
 pub data Call : Type 0 where
   writeRegister : (address value : ℕ) → Call
   readRegister : (address : ℕ) → Call
@@ -71,6 +71,7 @@ queryAnswerAt b number retiredLength l = channels.retiredLength b number (first 
 queryAnswerAt b number readings l = readingsAnswer b number
 queryAnswerAt b number (portion index size) l = downloads.portionAnswer b number index size (first l) (second l)
 queryAnswerAt b number (portionLength index size) l = downloads.portionLength b number index size (first l) (second l)
+queryAnswerAt b number lastTick l = lastTickAnswer b number
 
 unfoldable pub answer : Board → Call → Lent → BoardAnswer
 answer b (writeRegister address value) l = one (registers.writeAnswer b (length (first l)) address value)
@@ -141,6 +142,7 @@ queryLending number retiredLength = lendsBuffers number
 queryLending number readings = lendsNothing
 queryLending number (portion index size) = lendsBuffers number
 queryLending number (portionLength index size) = lendsBuffers number
+queryLending number lastTick = lendsNothing
 
 abbrev pub lending : Call → Lending
 lending (writeRegister address value) = lendsReadbacks

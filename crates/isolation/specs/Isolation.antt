@@ -1,7 +1,7 @@
 -- Document 01, 'What holds it to this': demand 3, "each channel behaves as it would alone". The claim, and what stands beside it.
 -- Proofs: Isolation and FedTheSame in proofs/Isolation.antt, IsolationShown, MissingCounted and NotVacuous in Shown, DefaultsUnused and
 -- OneFrameATick in Defaults, EndWordStays, EndWordStands and GroupEndAccepted in EndWords, MarksRetired in Marks, ReadingsTold in Readings,
--- PortionsTold, DownloadStays and DownloadAccepted in Downloads, the others in Refused and Others.
+-- PortionsTold, DownloadStays and DownloadAccepted in Downloads, LastTickNamed and LastTickSeen in LastTicks, the others in Refused and Others.
 use Prim.Native.Nat.{ℕ, _+_, _-_, _*_, _<_, _≤_}
 use mathlib.Core.Path.{_≡_}
 use mathlib.Core.Bool.{Bool, true, false, not}
@@ -10,12 +10,13 @@ use lib.ListN.{length, getD}
 use Rattle.status.specs.Bits.{bitAt, bitOf}
 use Rattle.sequencer.specs.declared.Transmission.the-variants as transmission
 use Rattle.command_frames.specs.Commanding.{isDue}
+use Rattle.channel_core.specs.Results.{TickReason}
 use Rattle.channel_core.specs.Answers as ans
 use Rattle.channel_core.specs.Behaviour.{playedOf}
 use Rattle.channel.specs.Calls.{mainBit}
 use Rattle.channel.specs.OneChannel.{OneChannel, ChannelCall, oneChannel, response, transitions, responses, bufferOne, bufferTwo}
 use Rattle.channel.specs.OneChannel as to
-use Rattle.histories.specs.History.{entry, history, endsGroup, opensDownload}
+use Rattle.histories.specs.History.{Entry, entry, history, endsGroup, opensDownload}
 use Rattle.histories.specs.Ranges.{InRange}
 use Rattle.histories.specs.Missing.{shortfallsOver, missingCount}
 use Rattle.histories.specs.EndWords.{secondActiveOver, groupRetiredOver, StaysRetired}
@@ -23,17 +24,18 @@ use Rattle.histories.specs.Tags.{marksIn, marksOver}
 use Rattle.histories.specs.Keeping.{keptOver}
 use Rattle.histories.specs.Readings.{repliesOver, readingsBy}
 use Rattle.histories.specs.Downloads.{openOver, portionBy, lengthBy, NoneEnds}
+use Rattle.histories.specs.LastTicks.{LastTick, madeTick, lastTickOver, FirstHeld, NoTickNorReset}
 use Rattle.board_state.specs.declared.Board.{Board}
 use Rattle.board_state.specs.State.{channelAt}
 use Rattle.board_state.specs.Main.{mainStatus}
 use Rattle.board_state.specs.Parts.{own}
 use Rattle.board.specs.Answers.{one}
 use Rattle.board.specs.Calls.{openAnswer}
-use Rattle.board_readings.specs.Calls.{readingsAnswer}
+use Rattle.board_readings.specs.Calls.{readingsAnswer, lastTickAnswer}
 use Rattle.board_registers.specs.Calls.{readAnswer}
 use Rattle.board.specs.Worlds.{World}
 use Rattle.isolation.specs.Calls.{Call, writeRegister, writeSetpoint, openDownload, query, tick, Lent, none, words, buffers, Item, answer, after, lentAfter, refused, ownBuffers, step, Fits, Allowed, worldAfter, opening}
-use Rattle.isolation.specs.Feeding.{names, feeds, fed, observes, view}
+use Rattle.isolation.specs.Feeding.{names, feeds, fed, answerFor, observes, view}
 
 -- one channel by itself, opened with the same depths and its own part of the words
 abbrev pub oneChannelAt : ℕ → ℕ → ℕ → List ℕ → List ℕ → OneChannel
@@ -71,6 +73,8 @@ pub record Shows (n m c : ℕ) (w : World) (o : OneChannel) : Type 0 where
   pub download : channelAt (w .board) c .download ≡ o .channel .download
   -- the readings of the last send
   pub readings : readingsAnswer (w .board) c ≡ response o (to.query to.readings 0 0)
+  -- what the last tick did
+  pub lastTick : lastTickAnswer (w .board) c ≡ response o (to.query to.lastTick 0 0)
   -- both statuses
   pub interruptStatus : channelAt (w .board) c .status .interrupt .bits ≡ o .channel .status .interrupt .bits
   pub pollingStatus : channelAt (w .board) c .status .polling .bits ≡ o .channel .status .polling .bits
@@ -266,6 +270,42 @@ DownloadAccepted =
     Allowed (opening n m s r) (before ++ (downloadOpening c ∷ []))
     × (feeds c (downloadOpening c) ≡ to.openDownload ∷ [])
     × (opensDownload (entry (view c w) to.openDownload) ≡ true)
+
+-- document 02, card 10: in the world `w` the board names what the last tick of channel c did; `t` is that tick, or none
+pub record Reports (c : ℕ) (w : World) (t : LastTick) : Type 0 where
+  pub named : TickReason
+  pub answers : answer (w .board) (query c to.lastTick) none ≡ one (ans.lastTick named)
+  pub first-held : FirstHeld named t
+
+-- "Show, for any calls that demand 3 allows, that the named reason held and that the ones before it in this list didn't.": from an opening, over any allowed
+-- list; the last tick is told by what the calls fed to c were answered
+abbrev pub LastTickNamed : Type 0
+LastTickNamed =
+    (n m : ℕ) (s r : List ℕ)
+    → openAnswer n m (length s) (length r) ≡ ans.done
+    → (c : ℕ) → 1 ≤ c → c ≤ 4
+    → (xs : List Item) → Allowed (opening n m s r) xs
+    → Reports c (worldAfter (opening n m s r) xs) (lastTickOver n m (own s (n * 16) c) (own r (m * 2) c) (fed c xs))
+
+-- a tick in this world, lent its memory, as one that is not refused is; and what channel c has to do with it: its state just before, and its frame or none
+abbrev pub tickIn : World → Item
+tickIn w = record { call = tick; lent = words (w .setpoints) }
+
+abbrev pub seenBy : ℕ → World → Entry
+seenBy c w = record { before = view c w; call = to.tick (length (w .setpoints)); answer = answerFor c (answer (w .board) tick (words (w .setpoints))) }
+
+-- the same by the board's own states and answers: any calls; a tick; then any calls, of which none feeds c a tick or a reset that takes place: the name is that
+-- of the first condition that held of c in the world just before that tick
+abbrev pub LastTickSeen : Type 0
+LastTickSeen =
+    (n m : ℕ) (s r : List ℕ)
+    → openAnswer n m (length s) (length r) ≡ ans.done
+    → (c : ℕ) → 1 ≤ c → c ≤ 4
+    → (before later : List Item)
+    → let w = worldAfter (opening n m s r) before in
+    Allowed (opening n m s r) (before ++ (tickIn w ∷ later))
+    → NoTickNorReset (history (view c (step w (tickIn w))) (fed c later))
+    → Reports c (worldAfter (opening n m s r) (before ++ (tickIn w ∷ later))) (madeTick (seenBy c w))
 
 -- Commands with D2 for channel c, lent the memory of this world; and what c is fed of it
 abbrev pub groupEndOf : ℕ → World → Item

@@ -1,9 +1,11 @@
-// The readings of a channel by role, printed: the words of tests/CALLS.md, kind 15, after the record's number.
+// The readings of a channel, and what its last tick did, by role, printed: the words of tests/CALLS.md, kinds 15 and 19, after the record's number.
 use access_control::GuardedBoard;
 use board_readings::Measurement;
+use board_readings::TickReport;
 use channel_readings::Reading;
 use output::Block;
 use permissions::Role;
+use tick_outcome::TickOutcome;
 
 // The whole part of a number; 0 of one that a u64 does not hold.
 fn whole_part(x: f64) -> u64 {
@@ -47,5 +49,26 @@ pub fn last_readings(block: &mut Block, b: GuardedBoard, role: Role, number: u32
             reading(block, sixth);
         }
         Measurement::Refused(reason) => printed_calls::refused(block, reason),
+    }
+}
+
+fn reason(block: &mut Block, outcome: TickOutcome) {
+    match outcome {
+        TickOutcome::NoTick => output::text(block, b" reason no-tick"),
+        TickOutcome::Sent => output::text(block, b" reason sent"),
+        TickOutcome::Disarmed => output::text(block, b" reason disarmed"),
+        TickOutcome::Idle => output::text(block, b" reason idle"),
+        TickOutcome::StartDelay => output::text(block, b" reason start-delay"),
+        TickOutcome::StartGap => output::text(block, b" reason start-gap"),
+        TickOutcome::ResumeGap => output::text(block, b" reason resume-gap"),
+        TickOutcome::BetweenEdges => output::text(block, b" reason between-edges"),
+    }
+}
+
+pub fn last_tick(block: &mut Block, b: GuardedBoard, role: Role, number: u32) {
+    let answer = guarded_readings::last_tick(b, role, number);
+    match answer {
+        TickReport::Outcome(outcome) => reason(block, outcome),
+        TickReport::Refused(refused) => printed_calls::refused(block, refused),
     }
 }

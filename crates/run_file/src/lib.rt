@@ -12,7 +12,7 @@ ghost use Rattle.tally.specs.Tallies.{tallies, stepped};
 ghost use Rattle.tally.specs.Answers.{ranOf};
 ghost use Rattle.board.specs.Worlds.{world};
 ghost use Rattle.replay.specs.Worlds.{after, answers};
-ghost use Rattle.run_file.specs.Runs.{start, askedAt, countsAfter, runOf, runLine};
+ghost use Rattle.run_file.specs.Runs.{start, askedAt, worldAfter, countsAfter, runOf, runLine};
 
 // The record at an index of the part, from 0: done and counted.
 fn step(
@@ -38,8 +38,8 @@ fn step(
 }
 
 // All records of the part, from a board and its memory.
-fn play(b: Board, part: &[u8], setpoints: &mut [u32], readbacks: &mut [u32]) -> Counts
-    ensures { λ r. ⌜ r ≡ countsAfter (world b (now (setpoints .entry)) (now (readbacks .entry))) (now (part .entry)) (length (now (part .entry)) / 8) ⌝ }
+fn play(b: Board, part: &[u8], setpoints: &mut [u32], readbacks: &mut [u32]) -> RunState
+    ensures { λ r. ⌜ (world (r .board) (now (setpoints .exit)) (now (readbacks .exit)) ≡ worldAfter (world b (now (setpoints .entry)) (now (readbacks .entry))) (now (part .entry)) (length (now (part .entry)) / 8)) × (r .counts ≡ countsAfter (world b (now (setpoints .entry)) (now (readbacks .entry))) (now (part .entry)) (length (now (part .entry)) / 8)) ⌝ }
 {
     let count = part.len() / 8;
     let mut state = RunState {
@@ -51,13 +51,12 @@ fn play(b: Board, part: &[u8], setpoints: &mut [u32], readbacks: &mut [u32]) -> 
         state = step(state, part, index, setpoints, readbacks);
         index += 1;
     }
-    let counts = state.counts;
-    counts
+    state
 }
 
-// The records run on a zeroed board of depths 16 and 64.
-fn run_records(part: &[u8]) -> Counts
-    ensures { λ r. ⌜ r ≡ countsAfter start (now (part .entry)) (length (now (part .entry)) / 8) ⌝ }
+// The records run on a zeroed board of depths 16 and 64: that board after them, and the six counts.
+pub fn run_records(part: &[u8]) -> RunState
+    ensures { λ r. ⌜ (r .board ≡ worldAfter start (now (part .entry)) (length (now (part .entry)) / 8) .board) × (r .counts ≡ countsAfter start (now (part .entry)) (length (now (part .entry)) / 8)) ⌝ }
 {
     let mut setpoints = [0u32; 1024];
     let mut readbacks = [0u32; 512];
@@ -72,7 +71,11 @@ pub fn run(file: &[u8]) -> Ran
 {
     let answer = records::records_length(file);
     match answer {
-        RecordsLength::Bytes(_) => Ran::Counted(run_records(records::records(file))),
+        RecordsLength::Bytes(_) => {
+            let state = run_records(records::records(file));
+            let counts = state.counts;
+            Ran::Counted(counts)
+        }
         RecordsLength::Refused(reason) => Ran::Refused(reason),
     }
 }

@@ -31,7 +31,7 @@ use Rattle.board_registers.specs.Calls.{readAnswerAt, writeAnswerAt}
 use Rattle.board.specs.Calls as board
 use Rattle.board_channels.specs.Calls as channels
 use Rattle.board_downloads.specs.Calls as downloads
-use Rattle.board_readings.specs.Calls.{readingsAnswer}
+use Rattle.board_readings.specs.Calls.{readingsAnswer, lastTickAnswer}
 use Rattle.board_registers.specs.Calls as registers
 use Rattle.isolation.specs.Calls.{Call, writeRegister, readRegister, writeSetpoint, arm, disarm, openDownload, reply, query, tick, event, changeUser, interruptLevel, Lent, first, second, queryAnswerAt, answer}
 use Rattle.isolation.specs.Feeding.{only, Scope, ofOne, ofEach, ofMain, ofAll, ofNone, writeScope, readScope, answerFor, shared, sharedRead, observeIn, observe}
@@ -112,7 +112,7 @@ observed-quiet c ofAll a q = one-quiet (shared a) (by-test Quiet (isRefusal a) (
 observed-quiet c ofNone a q = refl
 
 query-quiet : (b : Board) (d : ℕ) (q : Query) (l : Lent) → Quiet (queryAnswerAt b d q l)
-unfolding channels.retiredAnswer channels.retiredLength readingsAnswer reading.readingsAnswer downloads.portionAnswer downloads.portionLength
+unfolding channels.retiredAnswer channels.retiredLength readingsAnswer lastTickAnswer reading.readingsAnswer downloads.portionAnswer downloads.portionLength
 query-quiet b d to.retired l =
     unless-quiet (channels.retiredRefusal b d (length (first l)) (length (second l))) (ans.part (channels.retiredWords b d (first l) (second l)))
     (record { quiet = refl })
@@ -120,6 +120,7 @@ query-quiet b d to.retiredLength l =
     unless-quiet (channels.retiredRefusal b d (length (first l)) (length (second l))) (ans.partLength (length (channels.retiredWords b d (first l) (second l))))
     (record { quiet = refl })
 query-quiet b d to.readings l = by-test Quiet (noChannel d) (λ t. record { quiet = refl }) (λ t. record { quiet = refl })
+query-quiet b d to.lastTick l = by-test Quiet (noChannel d) (λ t. record { quiet = refl }) (λ t. record { quiet = refl })
 query-quiet b d (to.portion i n) l = unless-quiet (downloads.portionRefusal b d i n (length (first l)) (length (second l))) _ (record { quiet = refl })
 query-quiet b d (to.portionLength i n) l = unless-quiet (downloads.portionRefusal b d i n (length (first l)) (length (second l))) _ (record { quiet = refl })
 

@@ -158,7 +158,7 @@ fn none(block: &mut Block) {
     output::text(block, b" none");
 }
 
-// A call that is lent nothing: kinds 2, 4, 5, 11, 12, 15, 16.
+// A call that is lent nothing: kinds 2, 4, 5, 11, 12, 15, 16, 19.
 fn plain_call(block: &mut Block, b: GuardedBoard, record: Record) -> GuardedBoard {
     let role = roles::role(record.role);
     let kind = record.kind;
@@ -176,6 +176,10 @@ fn plain_call(block: &mut Block, b: GuardedBoard, record: Record) -> GuardedBoar
             b
         }
         16 => printed_downloads::open(block, b, role, record.channel as u32),
+        19 => {
+            printed_readings::last_tick(block, b, role, record.channel as u32);
+            b
+        }
         _ => {
             none(block);
             b

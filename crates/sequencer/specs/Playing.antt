@@ -47,6 +47,15 @@ isPaused (stage.Paused k) = true
 isPaused stage.Resuming = true
 isPaused stage.Ended = false
 
+-- a resume is loaded, and its word has not left
+abbrev pub isResuming : Stage → Bool
+isResuming stage.Idle = false
+isResuming stage.Starting = false
+isResuming stage.Running = false
+isResuming (stage.Paused k) = false
+isResuming stage.Resuming = true
+isResuming stage.Ended = false
+
 -- the last word went since Start
 abbrev pub isEnded : Stage → Bool
 isEnded stage.Idle = false

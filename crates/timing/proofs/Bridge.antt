@@ -13,14 +13,15 @@ use Rattle.sequencer.specs.declared.Sequencer.{Sequencer}
 use Rattle.sequencer.specs.Runs.{next, ticks, sends, JustSent, Leaves, Repeats}
 use Rattle.sequencer.specs.declared.Transmission.{Transmission}
 use Rattle.sequencer.specs.declared.Transmission.the-variants as transmission
+use Rattle.tick_outcome.specs.declared.TickOutcome.{TickOutcome}
 use Rattle.command_frames.specs.declared.CommandFrames.{CommandFrames}
 use Rattle.command_frames.specs.Commanding.{isDue}
 use Rattle.command_frames.specs.Commanding as cmd
 use Rattle.command_frames.proofs.Laws.{ticked-due, ticked-registers}
 use Rattle.channel_core.specs.Answers.{Answer}
 use Rattle.channel_core.specs.Answers as ans
-use Rattle.channel_core.specs.State.{withStatus, withSequencer, withCommands}
-use Rattle.channel_core.specs.Behaviour.{dueOf, tickOf, tickAnswer, sendStatus, isSetpoint, commandAnswer, sendFrame, tickLine}
+use Rattle.channel_core.specs.State.{withStatus, withSequencer, withOutcome, withCommands}
+use Rattle.channel_core.specs.Behaviour.{dueOf, tickOf, tickOutcomeOf, tickAnswer, sendStatus, isSetpoint, commandAnswer, sendFrame, tickLine}
 use Rattle.channel_core.proofs.Laws.{line-none}
 use Rattle.channel.proofs.Cases.{either}
 use Rattle.channel.specs.OneChannel.{OneChannel, ChannelCall, tick, refusalOf, effect, answer, transition, response, transitions, withChannel}
@@ -28,12 +29,12 @@ use Rattle.timing.specs.Ticking.{oneTick, after, onTick, wordAt, period,
 use Rattle.timing.specs.Timing as the
 
 -- a tick lent the right length is not refused
-tick-transition : (o : OneChannel) (lent : ℕ) → lent ≡ o .n * 64
+pub tick-transition : (o : OneChannel) (lent : ℕ) → lent ≡ o .n * 64
     → transition o (tick lent) ≡ withChannel o (tickOf (o .channel) (o .setpoints) (o .n) (o .user))
 unfolding transition refusalOf effect
 tick-transition o lent e = rw (eq-eqb lent (o .n * 64) e)
 
-tick-response : (o : OneChannel) (lent : ℕ) → lent ≡ o .n * 64
+pub tick-response : (o : OneChannel) (lent : ℕ) → lent ≡ o .n * 64
     → response o (tick lent) ≡ tickAnswer (o .channel) (o .setpoints) (o .n) (o .user)
 unfolding response refusalOf answer
 tick-response o lent e = rw (eq-eqb lent (o .n * 64) e)
@@ -43,48 +44,58 @@ transitions-more : (o : OneChannel) (c : ChannelCall) (k : ℕ) → transitions 
 transitions-more o c zero = refl
 transitions-more o c (suc k) = transitions-more (transition o c) c k
 
--- the channel with another status, sequencer and command frames
-abbrev with : OneChannel → Status → Sequencer → CommandFrames → OneChannel
-with o s q f = withChannel o (withCommands (withSequencer (withStatus (o .channel) s) q) f)
+-- the channel with another status, sequencer, last tick and command frames
+abbrev with : OneChannel → Status → Sequencer → TickOutcome → CommandFrames → OneChannel
+with o s q x f = withChannel o (withCommands (withOutcome (withSequencer (withStatus (o .channel) s) q) x) f)
 
 -- one tick of such a channel
-tick-with : (o : OneChannel) (s : Status) (q : Sequencer) (f : CommandFrames)
+tick-with : (o : OneChannel) (s : Status) (q : Sequencer) (y : TickOutcome) (f : CommandFrames)
     → let x = next (wordAt o) (o .n) (period o) (o .channel .registers .id) q in
-    transition (with o s q f) (oneTick o) ≡ with o (sendStatus s (q .last) (x .transmission)) (x .sequencer) (cmd.ticked f (isSetpoint (x .transmission)))
+    transition (with o s q y f) (oneTick o)
+    ≡ with o (sendStatus s (q .last) (x .transmission)) (x .sequencer) (tickOutcomeOf (with o s q y f .channel) (o .setpoints) (o .n) (o .user))
+    (cmd.ticked f (isSetpoint (x .transmission)))
 unfolding tickOf dueOf
-tick-with o s q f = tick-transition (with o s q f) (o .n * 64) refl
+tick-with o s q y f = tick-transition (with o s q y f) (o .n * 64) refl
 
-response-with : (o : OneChannel) (s : Status) (q : Sequencer) (f : CommandFrames)
-    → response (with o s q f) (oneTick o) ≡ tickLine (o .channel .registers .id) f (next (wordAt o) (o .n) (period o) (o .channel .registers .id) q .transmission)
+response-with : (o : OneChannel) (s : Status) (q : Sequencer) (y : TickOutcome) (f : CommandFrames)
+    → response (with o s q y f) (oneTick o) ≡ tickLine (o .channel .registers .id) f (next (wordAt o) (o .n) (period o) (o .channel .registers .id) q .transmission)
 unfolding tickAnswer dueOf
-response-with o s q f = tick-response (with o s q f) (o .n * 64) refl
+response-with o s q y f = tick-response (with o s q y f) (o .n * 64) refl
 
-after-suc : (o : OneChannel) (k : ℕ) → after o (suc k) ≡ transition (after o k) (oneTick o)
+pub after-suc : (o : OneChannel) (k : ℕ) → after o (suc k) ≡ transition (after o k) (oneTick o)
 unfolding after
 after-suc o k = transitions-more o (oneTick o) k
 
--- status, sequencer and command frames alone change
-after-next : (o : OneChannel) (k : ℕ) → after o k ≡ with o (after o k .channel .status) (played o k) (after o k .channel .commands)
-    → after o (suc k)
-    ≡ with o (sendStatus (after o k .channel .status) (played o k .last) (plays o (suc k))) (played o (suc k)) (cmd.ticked (after o k .channel .commands) (isSetpoint (plays o (suc k))))
+-- status, sequencer, last tick and command frames alone change
+abbrev AfterWith : OneChannel → ℕ → Type 0
+AfterWith o k = after o k ≡ with o (after o k .channel .status) (played o k) (after o k .channel .outcome) (after o k .channel .commands)
+
+-- what a tick more makes of the sequencer and the command frames
+after-next : (o : OneChannel) (k : ℕ) → AfterWith o k
+    → let d = after o (suc k) .channel in
+    (after o (suc k) ≡ with o (d .status) (played o (suc k)) (d .outcome) (d .commands))
+    × (d .commands ≡ cmd.ticked (after o k .channel .commands) (isSetpoint (plays o (suc k))))
 unfolding ticks sends
 after-next o k e =
-    after-suc o k ∙ ap (λ (p : OneChannel). transition p (oneTick o)) e ∙ tick-with o (after o k .channel .status) (played o k) (after o k .channel .commands)
+    let p = after o k in
+    let c = p .channel in
+    let x = next (wordAt o) (o .n) (period o) (o .channel .registers .id) (played o k) in
+    let y = tickOutcomeOf (with o (c .status) (played o k) (c .outcome) (c .commands) .channel) (o .setpoints) (o .n) (o .user) in
+    let s = sendStatus (c .status) (played o k .last) (x .transmission) in
+    let f = cmd.ticked (c .commands) (isSetpoint (x .transmission)) in
+    let n : after o (suc k) ≡ with o s (x .sequencer) y f
+    = after-suc o k ∙ ap (λ (p : OneChannel). transition p (oneTick o)) e ∙ tick-with o (c .status) (played o k) (c .outcome) (c .commands) in
+    (rw n refl, ap (λ (p : OneChannel). p .channel .commands) n)
 
-pub after-with : (o : OneChannel) (k : ℕ) → after o k ≡ with o (after o k .channel .status) (played o k) (after o k .channel .commands)
+pub after-with : (o : OneChannel) (k : ℕ) → AfterWith o k
 unfolding after ticks
 after-with o zero = refl
-after-with o (suc k) =
-    let e = after-next o k (after-with o k) in
-    e
-    ∙ ap (λ (x : Status). with o x (played o (suc k)) (cmd.ticked (after o k .channel .commands) (isSetpoint (plays o (suc k)))))
-    (sym (ap (λ (p : OneChannel). p .channel .status) e))
-    ∙ ap (λ (f : CommandFrames). with o (after o (suc k) .channel .status) (played o (suc k)) f) (sym (ap (λ (p : OneChannel). p .channel .commands) e))
+after-with o (suc k) = after-next o k (after-with o k) .0
 
 -- one more tick of the command frames
 pub after-commands : (o : OneChannel) (k : ℕ)
     → after o (suc k) .channel .commands ≡ cmd.ticked (after o k .channel .commands) (isSetpoint (plays o (suc k)))
-after-commands o k = ap (λ (p : OneChannel). p .channel .commands) (after-next o k (after-with o k))
+after-commands o k = after-next o k (after-with o k) .1
 
 -- after a tick no command frame is due
 due-later : (o : OneChannel) (k : ℕ) → isDue (after o (suc k) .channel .commands .waiting) ≡ false
@@ -97,7 +108,7 @@ response-after : (o : OneChannel) (k : ℕ)
 unfolding sends
 response-after o k =
     ap (λ (p : OneChannel). response p (oneTick o)) (after-with o k)
-    ∙ response-with o (after o k .channel .status) (played o k) (after o k .channel .commands)
+    ∙ response-with o (after o k .channel .status) (played o k) (after o k .channel .outcome) (after o k .channel .commands)
 
 -- past the next tick nothing but setpoints leaves
 pub between-past : (o : OneChannel) (j : ℕ) → 2 ≤ j → between o j ≡ ans.none
@@ -172,7 +183,7 @@ keeps-on a b =
       same-setpoints = b .same-setpoints ∙ a .same-setpoints;
     }
 
-same-tick : (o : OneChannel) (k : ℕ) → oneTick (after o k) ≡ oneTick o
+pub same-tick : (o : OneChannel) (k : ℕ) → oneTick (after o k) ≡ oneTick o
 same-tick o k = ap (λ (n : ℕ). tick (n * 64)) (after-keeps o k .same-n)
 
 pub after-add : (o : OneChannel) (k j : ℕ) → after o (k + j) ≡ after (after o k) j

@@ -7,3 +7,4 @@ pub mod Tags
 pub mod Loaded
 pub mod Timing
 pub mod Commands
+pub mod Outcomes

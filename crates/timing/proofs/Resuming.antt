@@ -21,7 +21,7 @@ use Rattle.channel_core.specs.declared.Channel.{Channel}
 use Rattle.channel_core.specs.State.{withSequencer}
 use Rattle.channel_core.specs.Behaviour.{endedIf, endedWords, startedIf, resumedIf, taggedIf, resumedOn, eventOf, eventWords, commanded, commandWords}
 use Rattle.channel.specs.OneChannel.{OneChannel, transition, withChannel}
-use Rattle.timing.specs.Ticking.{wordAt, period, answerOn, Resumes}
+use Rattle.timing.specs.Ticking.{after, wordAt, period, answerOn, Resumes}
 use Rattle.timing.specs.Timing.{command, eventCall, triggeredBy, delay, NeitherEndsNorStarts, NeitherD2NorD0}
 use Rattle.timing.specs.Timing as the
 use Rattle.timing.proofs.Bridge.{after-with, on-tick, sent-after, repeat}
@@ -153,22 +153,39 @@ module _ (words : ℕ → ℕ) (n p id : ℕ) where
       let f : t .resume - 1 ≡ d + 10 - suc j = omega (arith, k .1) in
       (ap (λ (x : Ticked). x .sequencer .stage) e ∙ v .0 ∙ k .0, ap (λ (x : Ticked). x .sequencer .resume) e ∙ v .1 ∙ f)
 
+-- what a resume that is taken comes to; its countdown, and what it leaves of the channel
+pub record Taken (o r : OneChannel) (delay : ℕ) : Type 0 where
+  pub resumes : Resumes o r delay
+  pub counts : (j : ℕ) → j < delay + 10 → after r j .channel .sequencer .resume ≡ delay + 10 - j
+  pub same-armed : r .channel .sequencer .armed ≡ o .channel .sequencer .armed
+  pub same-commands : r .channel .commands ≡ o .channel .commands
+
 -- whatever its tag
 resumes : (o : OneChannel) (k d : ℕ) (tag : Bool) → o .channel .sequencer .stage ≡ stage.Paused k → 1 ≤ o .channel .sequencer .left
-    → Resumes o (withChannel o (withSequencer (o .channel) (resumed (withTag (o .channel .sequencer) tag) k d))) d
+    → Taken o (withChannel o (withSequencer (o .channel) (resumed (withTag (o .channel .sequencer) tag) k d))) d
 resumes o k d tag at some =
     let q = withTag (o .channel .sequencer) tag in
     let r = withChannel o (withSequencer (o .channel) (resumed q k d)) in
     let l = laws.resume (wordAt o) (o .n) (period o) (o .channel .registers .id) q k d at some (period-some o) in
+    let taken-at = resume-taken q k d at in
+    let way-to = way (wordAt o) (o .n) (period o) (o .channel .registers .id) q d in
     record {
-      repeats = λ j a b. repeat o r (q .word) (q .left) j a refl refl (l .0 j b);
-      silent = λ j a b. on-tick r j (omega arith) ∙ ap (answerOn r j) (l .1 j a b);
-      sent = on-tick r (d + 10) (omega arith) ∙ ap (answerOn r (d + 10)) (l .2);
-      done = sent-after r (d + 10) (q .index) (l .3);
-      under-way = λ j h.
-          ap (λ (x : OneChannel). x .channel .sequencer .stage) (after-with r j)
-          ∙ ap (λ (s : Sequencer). ticks (wordAt o) (o .n) (period o) (o .channel .registers .id) s j .stage) (resume-taken q k d at)
-          ∙ way (wordAt o) (o .n) (period o) (o .channel .registers .id) q d j h .0;
+      resumes = record {
+        repeats = λ j a b. repeat o r (q .word) (q .left) j a refl refl (l .0 j b);
+        silent = λ j a b. on-tick r j (omega arith) ∙ ap (answerOn r j) (l .1 j a b);
+        sent = on-tick r (d + 10) (omega arith) ∙ ap (answerOn r (d + 10)) (l .2);
+        done = sent-after r (d + 10) (q .index) (l .3);
+        under-way = λ j h.
+            ap (λ (x : OneChannel). x .channel .sequencer .stage) (after-with r j)
+            ∙ ap (λ (s : Sequencer). ticks (wordAt o) (o .n) (period o) (o .channel .registers .id) s j .stage) taken-at
+            ∙ way-to j h .0;
+      };
+      counts = λ j h.
+          ap (λ (x : OneChannel). x .channel .sequencer .resume) (after-with r j)
+          ∙ ap (λ (s : Sequencer). ticks (wordAt o) (o .n) (period o) (o .channel .registers .id) s j .resume) taken-at
+          ∙ way-to j h .1;
+      same-armed = ap (λ (s : Sequencer). s .armed) taken-at;
+      same-commands = refl;
     }
 
 -- a tag after the resume is the resume of a channel with that tag
@@ -178,22 +195,30 @@ tagged-loaded on c k d at =
     tagged-channel on (loaded c k d)
     ∙ ap (withSequencer c) (ap (tagIf on) (resume-taken (c .sequencer) k d at) ∙ sym (resume-taken (tagIf on (c .sequencer)) k d at))
 
-pub resume-by-event : the.ResumeByEvent
-resume-by-event o code k only low high on at some =
+pub event-taken : (o : OneChannel) (code k : ℕ) → NeitherEndsNorStarts o code → 1 ≤ k → k ≤ 4 → triggeredBy o k code ≡ true
+    → o .channel .sequencer .stage ≡ stage.Paused k → 1 ≤ o .channel .sequencer .left → Taken o (transition o (eventCall o code)) (delay o k)
+event-taken o code k only low high on at some =
     let r = o .channel .registers in
     let t = triggeredBy o tagEvent code in
-    subst (λ (p : OneChannel). Resumes o p (delay o k))
+    subst (λ (p : OneChannel). Taken o p (delay o k))
     (sym
     (event-resumes o code only
     ∙ ap (λ (c : Channel). withChannel o (taggedIf t c)) (taken r (o .channel) (o .user) code k low high on at)
     ∙ ap (withChannel o) (tagged-loaded t (o .channel) k (delay o k) at)))
     (resumes o k (delay o k) _ at some)
 
-pub resume-by-command : the.ResumeByCommand
-resume-by-command o value only on at some =
-    subst (λ (p : OneChannel). Resumes o p 0)
+pub vme-taken : (o : OneChannel) (value : ℕ) → NeitherD2NorD0 value → bitAt value 1 ≡ true
+    → o .channel .sequencer .stage ≡ stage.Paused 0 → 1 ≤ o .channel .sequencer .left → Taken o (transition o (command o value)) 0
+vme-taken o value only on at some =
+    subst (λ (p : OneChannel). Taken o p 0)
     (sym
     (command-resumes o value only
     ∙ ap (λ (c : Channel). withChannel o (taggedIf (bitAt value 3) c)) (command-taken (o .channel) (bitAt value 1) on)
     ∙ ap (withChannel o) (tagged-loaded (bitAt value 3) (o .channel) 0 0 at)))
     (resumes o 0 0 _ at some)
+
+pub resume-by-event : the.ResumeByEvent
+resume-by-event o code k only low high on at some = event-taken o code k only low high on at some .resumes
+
+pub resume-by-command : the.ResumeByCommand
+resume-by-command o value only on at some = vme-taken o value only on at some .resumes

@@ -15,11 +15,14 @@ use Rattle.sequencer.specs.Playing.{shortfall}
 use Rattle.sequencer.specs.Runs.{unmarked}
 use Rattle.sequencer.specs.Runs as seq
 use Rattle.sequencer.proofs.Untagged.{Alike, tick-untagged}
+use Rattle.tick_outcome.specs.declared.TickOutcome.{TickOutcome}
+use Rattle.tick_outcome.specs.Outcomes.{outcome}
+use Rattle.tick_outcome.proofs.Laws.{outcome-by}
 use Rattle.command_frames.specs.Commanding as cmd
 use Rattle.channel_core.specs.declared.Channel.{Channel}
-use Rattle.channel_core.specs.Answers.{Answer, refused}
-use Rattle.channel_core.specs.State.{withStatus, withSequencer, withCommands}
-use Rattle.channel_core.specs.Behaviour.{dueOf, playedOf, sendStatus, isSetpoint, tickLine, tickOf, tickAnswer}
+use Rattle.channel_core.specs.Answers.{Answer, refused, isFrame}
+use Rattle.channel_core.specs.State.{withStatus, withSequencer, withOutcome, withCommands}
+use Rattle.channel_core.specs.Behaviour.{dueOf, playedOf, sendStatus, isSetpoint, tickLine, tickOf, tickOutcomeOf, tickAnswer}
 use Rattle.channel.specs.OneChannel.{OneChannel, tick, refusalOf, effect, answer, transition, transitions, response, withChannel}
 use Rattle.timing.specs.Ticking.{after, onTick}
 use Rattle.timing.specs.Timing.{taggedIf, untagged}
@@ -41,23 +44,30 @@ module _ (c : Channel) (s : List ℕ) (n user : ℕ) where
   unfolding dueOf
   played-same = tick-untagged (dueOf c s n user) n (periodOf (c .registers .clock)) (c .registers .id) (c .sequencer)
 
+  answer-same : tickAnswer (plain c) s n user ≡ tickAnswer c s n user
+  unfolding tickAnswer
+  answer-same = ap (tickLine (c .registers .id) (c .commands)) (played-same .transmission-same)
+
+  outcome-same : tickOutcomeOf (plain c) s n user ≡ tickOutcomeOf c s n user
+  unfolding tickOutcomeOf
+  outcome-same =
+      ap (λ (a : Answer). outcome (isFrame a) (plain c .sequencer)) answer-same
+      ∙ outcome-by (isFrame (tickAnswer c s n user)) (c .sequencer) (plain c .sequencer) refl refl refl refl
+
   tick-same : plain (tickOf (plain c) s n user) ≡ plain (tickOf c s n user)
   unfolding tickOf
   tick-same =
       let a = played-same in
       let x = playedOf c s n user in
+      let y = tickOutcomeOf (plain c) s n user in
       ap₂
       (λ (t : Transmission) (q : Sequencer).
-      withCommands (withSequencer (withStatus c (sendStatus (c .status) (unmarked (c .sequencer .last)) t)) q) (cmd.ticked (c .commands) (isSetpoint t)))
+      withCommands (withOutcome (withSequencer (withStatus c (sendStatus (c .status) (unmarked (c .sequencer .last)) t)) q) y) (cmd.ticked (c .commands) (isSetpoint t)))
       (a .transmission-same) (a .rest-same)
-      ∙ ap
-      (λ (t : Status).
-      withCommands (withSequencer (withStatus c t) (seq.untagged (x .sequencer))) (cmd.ticked (c .commands) (isSetpoint (x .transmission))))
-      (status-same (c .status) (c .sequencer .last) (x .transmission))
-
-  answer-same : tickAnswer (plain c) s n user ≡ tickAnswer c s n user
-  unfolding tickAnswer
-  answer-same = ap (tickLine (c .registers .id) (c .commands)) (played-same .transmission-same)
+      ∙ ap₂
+      (λ (t : Status) (z : TickOutcome).
+      withCommands (withOutcome (withSequencer (withStatus c t) (seq.untagged (x .sequencer))) z) (cmd.ticked (c .commands) (isSetpoint (x .transmission))))
+      (status-same (c .status) (c .sequencer .last) (x .transmission)) outcome-same
 
 -- a tick, whatever it is lent
 module _ (lent : ℕ) where

@@ -1,3 +1,4 @@
 pub mod Ticking
 pub mod Timing
 pub mod Commands
+pub mod Outcomes

@@ -12,7 +12,7 @@ use Rattle.sequencer.specs.Playing.{isIdle, isStarting}
 use Rattle.sequencer.specs.Runs.{kindAt, advances, holds}
 use Rattle.sequencer.specs.Runs as seq
 use Rattle.channel_core.specs.Answers as ans
-use Rattle.channel_core.specs.State.{withStatus, withSequencer, withCommands}
+use Rattle.channel_core.specs.State.{withStatus, withSequencer, withOutcome, withCommands}
 use Rattle.channel_core.specs.Behaviour as core
 use Rattle.channel.specs.OneChannel.{OneChannel, ChannelCall, writeRegister, event, transition, transitions, oneChannel, withChannel}
 use Rattle.timing.specs.Ticking.{after, onTick, wordAt, period, between, answerOn, frameOf, played, plays, Keeps, Sent, NextSetpoint, Repeat, KeptRepeat, Resumes, Still}
@@ -43,13 +43,15 @@ untagged o = withChannel o (withSequencer (o .channel) (seq.untagged (o .channel
 
 -- ---- A. Ticks
 
--- k ticks change the status, the sequencer and the command frames alone; the sequencer is ticked k times with the words of the current user's active
+-- k ticks change the status, the sequencer, what the last tick did and the command frames alone; the sequencer is ticked k times with the words of the current user's active
 -- buffer; tick k + 1 answers the frame of the word that it transmits, and else a command frame on the next tick, if one is due, and none
 abbrev pub Bridge : Type 0
 Bridge =
     (o : OneChannel) (k : ℕ)
     → (after o k
-    ≡ withChannel o (withCommands (withSequencer (withStatus (o .channel) (after o k .channel .status)) (played o k)) (after o k .channel .commands)))
+    ≡ withChannel o
+    (withCommands (withOutcome (withSequencer (withStatus (o .channel) (after o k .channel .status)) (played o k)) (after o k .channel .outcome))
+    (after o k .channel .commands)))
     × (onTick o (k + 1) ≡ answerOn o (k + 1) (plays o (k + 1)))
 
 -- so tick k + j from now is tick j after k ticks

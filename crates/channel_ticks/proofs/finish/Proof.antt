@@ -1,4 +1,4 @@
--- `channel_ticks::finish` meets its contract: what the ticks latched and counted, of the channel before them. Assumes nothing.
+-- `channel_ticks::finish` meets its contract: what the ticks latched and counted, of the channel before them, and what the last did. Assumes nothing.
 use mathlib.Core.Path.{refl}
 use borrow.Author.Needs.{needs}
 use Rattle.channel_ticks.proofs.finish.Statement.{statement}
@@ -13,12 +13,16 @@ latched-by-requires c κs = search needs
 missing-after-requires : tie.Need-missing-after-requires
 missing-after-requires c κs = search needs
 
+with-outcome-requires : tie.Need-with-outcome-requires
+with-outcome-requires c κs = search needs
+
 returns : tie.Need-returns
-returns c = (
-  simp (c .missing-after .ensures .0, c .before .latched-by .ensures, c .before .before .receiving-after .ensures),
-  refl,
-  c .missing-after .ensures .1,
-)
+returns c =
+    let m = c .before in (
+      simp (c .with-outcome .ensures, m .missing-after .ensures .0, m .before .latched-by .ensures, m .before .before .receiving-after .ensures),
+      refl,
+      m .missing-after .ensures .1,
+    )
 
 pub finish-spec : {M : Type 1} → statement M
-finish-spec = tie.close (tie.spec receiving-after-requires latched-by-requires missing-after-requires returns)
+finish-spec = tie.close (tie.spec receiving-after-requires latched-by-requires missing-after-requires with-outcome-requires returns)

@@ -51,16 +51,16 @@ loop-again c =
     )
 
 same-length : tie.Need-same-length Inv-loop μ-loop
-same-length c = c .before .before .loop .inv .1
+same-length c = c .before .loop .inv .1
 
 same-length-2 : tie.Need-same-length-2 Inv-loop μ-loop
-same-length-2 c = c .before .before .loop .inv .2
+same-length-2 c = c .before .loop .inv .2
 
 returns : tie.Need-returns Inv-loop μ-loop
 returns c =
-    let i = c .before .before .loop .inv in
-    let e : c .before .before .loop .index ≡ length (now (c .before .before .before .before .before .before .before .args .part)) / 8 = omega (arith, c .before .loop-test .left, i .0) in
-    rw e at (i .4)
+    let i = c .before .loop .inv in
+    let e : c .before .loop .index ≡ length (now (c .before .before .before .before .before .before .args .part)) / 8 = omega (arith, c .loop-test .left, i .0) in
+    (rw e at (i .3), rw e at (i .4))
 
 pub play-spec : {M : Type 1} → statement M
 play-spec =

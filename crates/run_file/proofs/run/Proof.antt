@@ -24,7 +24,7 @@ enum-known-answer c = search needs
 
 returns : tie.Need-returns
 returns c =
-    run-counted (now (c .before .before .before .before .before .before .args .file)) _ (sym (ap bytesOf (c .before .before .enum-told .given .1)) ∙ c .before .before .before .before .records-length .ensures) (c .before .records .ensures) (c .run-records .ensures)
+    run-counted (now (c .before .before .before .before .before .before .before .args .file)) _ (sym (ap bytesOf (c .before .before .before .enum-told .given .1)) ∙ c .before .before .before .before .before .records-length .ensures) (c .before .before .records .ensures) (c .before .run-records .ensures .1)
 
 returns-2 : tie.Need-returns-2
 returns-2 c =

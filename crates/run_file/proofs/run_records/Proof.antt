@@ -4,8 +4,8 @@ use mathlib.Core.Path.{ap, _∙_}
 use lib.ListN.{length, replicate}
 use denote.Ref.{now}
 use Rattle.board_state.specs.declared.Board.{Board}
-use Rattle.board.specs.Worlds.{world}
-use Rattle.run_file.specs.Runs.{start, countsAfter}
+use Rattle.board.specs.Worlds.{World, world}
+use Rattle.run_file.specs.Runs.{start, worldAfter, countsAfter}
 use borrow.Author.Needs.{needs}
 use Rattle.run_file.proofs.run_records.Statement.{statement}
 use Rattle.run_file.proofs.run_records.Tie as tie
@@ -32,8 +32,12 @@ returns : tie.Need-returns
 unfolding start
 returns c =
     let part = now (c .before .before .before .before .before .before .before .before .before .before .args .part) in
-    c .before .before .play .ensures
-    ∙ ap (λ (b : Board). countsAfter (world b (replicate 1024 0) (replicate 512 0)) part (length part / 8)) (c .before .before .before .before .before .before .«open» .ensures .0)
+    let e = c .before .before .play .ensures in
+    let opened = c .before .before .before .before .before .before .«open» .ensures .0 in (
+      ap (λ (w : World). w .board) (e .0)
+          ∙ ap (λ (b : Board). worldAfter (world b (replicate 1024 0) (replicate 512 0)) part (length part / 8) .board) opened,
+      e .1 ∙ ap (λ (b : Board). countsAfter (world b (replicate 1024 0) (replicate 512 0)) part (length part / 8)) opened,
+    )
 
 pub run-records-spec : {M : Type 1} → statement M
 run-records-spec =

@@ -1,7 +1,7 @@
--- `channel_core::Channel::tick` meets its contract: the sequencer's tick, with the condition and the frame of what it sent, and a command frame's. Assumes nothing.
+-- `channel_core::Channel::tick` meets its contract: the sequencer's tick, with the condition and the frame of what it sent, a command frame's, and what the tick did. Assumes nothing.
 use mathlib.Core.Path.{_≡_}
 use denote.Ref.{now}
-use Rattle.channel_core.specs.Behaviour.{playedOf, tickOf, tickAnswer}
+use Rattle.channel_core.specs.Behaviour.{playedOf, advancedOf, tickOutcomeOf, tickOf, tickAnswer}
 use borrow.Author.Needs.{needs}
 use Rattle.channel_core.proofs.Channel.tick.Statement.{statement}
 use Rattle.channel_core.proofs.Channel.tick.Tie as tie
@@ -34,14 +34,32 @@ ticked-requires c κs = search needs
 send-line-requires : tie.Need-send-line-requires
 send-line-requires c κs = search needs
 
+is-frame-requires : tie.Need-is-frame-requires
+is-frame-requires c κs = search needs
+
+outcome-requires : tie.Need-outcome-requires
+outcome-requires c κs = search needs
+
+with-outcome-requires : tie.Need-with-outcome-requires
+with-outcome-requires c κs = search needs
+
 returns : tie.Need-returns
-unfolding tickOf tickAnswer
+unfolding tickOf tickOutcomeOf tickAnswer
 returns c =
-    let s = c .before .before .before in
+    let l = c .before .before .before in
+    let s = l .before .before .before in
     let t = s .before .before in
     rw (← played t) (
-      simp (s .send-status .ensures, c .before .ticked .ensures, c .before .before .sends .ensures),
-      c .send-line .ensures,
+      simp (
+        c .with-outcome .ensures,
+        c .before .outcome .ensures,
+        c .before .before .is-frame .ensures,
+        l .send-line .ensures,
+        s .send-status .ensures,
+        l .before .ticked .ensures,
+        l .before .before .sends .ensures,
+      ),
+      l .send-line .ensures,
     )
 
 pub tick-spec : {M : Type 1} → statement M
@@ -55,4 +73,7 @@ tick-spec =
     sends-requires
     ticked-requires
     send-line-requires
+    is-frame-requires
+    outcome-requires
+    with-outcome-requires
     returns)
