@@ -1,6 +1,7 @@
 //! The answers to calls, as `trace` and `calls` print them.
 
 use crate::board::{Board, Reply};
+use crate::last_tick::LastTick;
 use crate::role::Role;
 use crate::volts::Reading;
 use std::fmt;
@@ -18,6 +19,7 @@ pub enum Answer {
     /// The words that a ramp wrote to each buffer.
     Wrote(usize),
     Volts([Reading; 4]),
+    LastTick(LastTick),
     /// A script record that makes no call.
     None,
     Refused(u8),
@@ -46,6 +48,7 @@ impl fmt::Display for Answer {
                 write!(f, "volts")?;
                 readings.iter().try_for_each(|reading| write!(f, " {reading}"))
             }
+            Answer::LastTick(last) => write!(f, "reason {last}"),
             Answer::None => write!(f, "none"),
             Answer::Refused(n) => write!(f, "refused {n}"),
         }

@@ -6,6 +6,7 @@ mod copies;
 mod crc;
 mod download;
 mod end_word;
+mod last_tick;
 mod life;
 mod missing;
 mod peek;
@@ -31,6 +32,7 @@ use self::missing::Watch;
 use self::tag::{Dropped, Tags};
 use self::volts::{Idled, WatchedVolts};
 use crate::channel::{Channel, Window, CLOCK, SWITCH, TAG};
+use crate::last_tick::LastTick;
 use crate::map::{check_way, place, rule, Place};
 use crate::role::{Access, Role};
 use crate::tally::{Did, Tally};
@@ -252,12 +254,16 @@ impl Board {
         self.now += 1;
         for c in 0..4 {
             self.tally.is_hidden = !self.shows(role, c);
+            // document 02, request 10: "that of the state just before that tick"
+            let quiet = self.ch[c].quiet(self.now);
             let command = if self.ch[c].waiting.is_some() { self.tick_command(c) } else { None };
             let setpoint = if self.ch[c].function.is_some() { self.tick_channel(c, setpoints) } else { None };
             // never both: what is due leaves on the next tick; it became due on an idle channel, by D0 or Group End, and a
             // Start since then sends 10 ticks later at the earliest
             assert!(command.is_none() || setpoint.is_none());
-            if let Some(frame) = command.or(setpoint).filter(|_| self.shows(role, c)) {
+            let sent = command.or(setpoint);
+            self.ch[c].last_tick = if sent.is_some() { LastTick::Sent } else { quiet };
+            if let Some(frame) = sent.filter(|_| self.shows(role, c)) {
                 show(c, frame);
             }
         }

@@ -3,6 +3,7 @@
 //! Time is absolute: a function knows the tick on which its next frame leaves, counted since the
 //! board was opened. Registers are kept as the words that the map shows, at half their offset.
 
+use crate::last_tick::LastTick;
 use crate::volts::Reading;
 
 // "Channel status: D15 RUN, D14 EOF, D13 GE, D12 EE, D11–D8 pauses 4–1, D7 VME pause, D2 CRC."
@@ -68,7 +69,7 @@ pub struct Function {
     pub ended: bool,
     /// The last send since idle.
     pub sent: Option<Sent>,
-    /// No send since the latest Start (for the tally alone).
+    /// No send since the latest Start.
     pub fresh: bool,
 }
 
@@ -112,6 +113,8 @@ pub struct Channel {
     pub is_tag_pending: bool,
     /// The retired count that a download remembers, while one is open (document 02, request 8).
     pub download: Option<usize>,
+    /// What the last tick since opening or reset did (document 02, request 10).
+    pub last_tick: LastTick,
     /// Command frames since the setpoint count was cleared (for the tally alone).
     pub commands: u32,
 }
@@ -144,6 +147,7 @@ impl Channel {
             window: Window::Closed,
             is_tag_pending: false,
             download: None,
+            last_tick: LastTick::NoTick,
             commands: 0,
         }
     }

@@ -1,7 +1,8 @@
 //! The second program: the V233 bench written once more from documents 01, 000 and 02 alone, to
-//! be compared with the product. Of document 02 it has requests 1 to 9.
+//! be compared with the product. Of document 02 it has requests 1 to 10.
 //!
-//!   second run | trace | calls     reads standard input to its end, prints what the product's
+//!   second run | trace | why | calls
+//!                                  reads standard input to its end, prints what the product's
 //!                                  program of that name prints
 //!   second gen DIR SEED COUNT      writes COUNT run files, COUNT call scripts, a script of ramps and one of voltages
 //!                                  for every tenth, one of downloads and one of roles for every twentieth, and some
@@ -16,6 +17,7 @@ mod channel;
 mod checks;
 mod corpus;
 mod frame;
+mod last_tick;
 mod map;
 mod ramp;
 mod role;
@@ -43,6 +45,7 @@ fn main() {
     match args.iter().map(String::as_str).collect::<Vec<_>>()[..] {
         ["run"] => print(&runfile::line(&input())),
         ["trace"] => print(&runfile::tell(&input()).trace),
+        ["why"] => print(&runfile::why(&input())),
         ["calls"] => print(&script::tell(&input()).text),
         ["gen", dir, seed, count] => {
             let (seed, count) = (seed.parse().expect("seed"), count.parse().expect("count"));
@@ -65,7 +68,7 @@ fn main() {
             }
         }
         _ => {
-            eprintln!("second run | trace | calls | gen DIR SEED COUNT | answers DIR | summary DIR | selftest");
+            eprintln!("second run | trace | why | calls | gen DIR SEED COUNT | answers DIR | summary DIR | selftest");
             exit(2);
         }
     }

@@ -1,4 +1,4 @@
-//! The run file of document 01: `run` and `trace`.
+//! The run file of document 01: `run`, `trace` and `why`.
 
 use crate::answer::{answer, ticks, Answer};
 use crate::board::{Board, Setpoint};
@@ -115,10 +115,31 @@ pub fn line(file: &[u8]) -> String {
     counts.line()
 }
 
-/// The log line and the trace of a file, and the bench after it.
+/// What the last tick of a file did, of each channel (document 02, request 10).
+fn last_ticks(board: &mut Board) -> String {
+    let mut text = String::new();
+    for c in 1..=4 {
+        let [words, sentence] = board.last_tick(Examiner, c).unwrap().told();
+        writeln!(text, "channel {c}: {words}. {sentence}").unwrap();
+    }
+    text
+}
+
+/// The same alone.
+pub fn why(file: &[u8]) -> String {
+    let Ok(records) = records(file) else { return "file 8\n".into() };
+    let mut bench = Bench::new();
+    for record in records.chunks(8) {
+        bench.step(record);
+    }
+    last_ticks(&mut bench.board)
+}
+
+/// The log line and the trace of a file, what `why` says to it, and the bench after it.
 pub struct Told {
     pub line: String,
     pub trace: String,
+    pub why: String,
     pub answers: Vec<Answer>,
     pub bench: Bench,
 }
@@ -126,7 +147,8 @@ pub struct Told {
 pub fn tell(file: &[u8]) -> Told {
     let mut bench = Bench::new();
     let Ok(records) = records(file) else {
-        return Told { line: "file 8\n".into(), trace: "file 8\n".into(), answers: vec![Answer::Refused(8)], bench };
+        let [line, trace, why] = ["file 8\n"; 3].map(String::from);
+        return Told { line, trace, why, answers: vec![Answer::Refused(8)], bench };
     };
     let (mut trace, mut answers, mut counts) = (String::new(), Vec::new(), Counts::default());
     for (k, record) in records.chunks(8).enumerate() {
@@ -144,5 +166,6 @@ pub fn tell(file: &[u8]) -> Told {
         write!(trace, " r{}", bench.board.retired_count(c)).unwrap();
     }
     trace.push('\n');
-    Told { line: counts.line(), trace, answers, bench }
+    let why = last_ticks(&mut bench.board);
+    Told { line: counts.line(), trace, why, answers, bench }
 }

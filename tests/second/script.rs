@@ -12,6 +12,7 @@
 //!   14 ramp of y breakpoints, N x, lent z low and z high words, with no board
 //!   15 voltages
 //!   16 open a download   17 portion, first x, length y   18 its length   (lent codes of 7)
+//!   19 the last tick
 //!
 //! Byte 2 has the lent code in D3–D0 and the role (there a seat) in D5–D4; an opening has the candidate's permissions in
 //! byte 1 and the watcher's in byte 3.
@@ -189,6 +190,7 @@ impl Bench {
             15 => self.voltages(role, c, code),
             16 => self.open_download(role, c, code),
             17 | 18 => self.portion(role, Portion { c, first: x, length: y, is_length: kind == 18 }, code),
+            19 => answer(board.last_tick(role, c), Answer::LastTick),
             _ => Answer::None,
         }
     }

@@ -287,7 +287,7 @@ fn odd_record(d: &Dice, is_script: bool) -> [u8; 16] {
     let mut r = d.bytes();
     if is_script {
         // kinds past the list make no call
-        r[0] = 19 + d.below(237) as u8;
+        r[0] = 20 + d.below(236) as u8;
         return r;
     }
     r[0] = d.of(&[0, 1, 3, 4, 5, 5, 8, 9, d.below(256) as u8]);

@@ -20,7 +20,7 @@ fn ending(path: &Path) -> &str {
     path.extension().and_then(|e| e.to_str()).unwrap_or("")
 }
 
-/// Beside each run file its log line and trace, beside each script its answers.
+/// Beside each run file its log line, its trace and what `why` says, beside each script its answers.
 pub fn answers(dir: &Path) -> std::io::Result<()> {
     for path in files(dir)? {
         match ending(&path) {
@@ -28,6 +28,7 @@ pub fn answers(dir: &Path) -> std::io::Result<()> {
                 let told = runfile::tell(&fs::read(&path)?);
                 fs::write(path.with_extension("run.line"), told.line)?;
                 fs::write(path.with_extension("run.trace"), told.trace)?;
+                fs::write(path.with_extension("run.why"), told.why)?;
             }
             "calls" => fs::write(path.with_extension("calls.text"), script::tell(&fs::read(&path)?).text)?,
             _ => {}
