@@ -67,6 +67,7 @@ pub fn ticks(board: &mut Board, role: Role, setpoints: &[u32], count: u32) -> An
     board.watch_record();
     board.watch_tag_record();
     board.watch_volts_record();
+    board.watch_tick_record();
     for t in 1..=count {
         if let Err(n) = board.tick(role, setpoints, |c, frame| sent.push((t, c + 1, frame))) {
             return Answer::Refused(n);

@@ -27,6 +27,7 @@ use self::access::{may_examine, may_run};
 use self::crc::Unread;
 use self::download::Downloads;
 use self::end_word::Groups;
+use self::last_tick::Ticks;
 use self::life::Asked;
 use self::missing::Watch;
 use self::tag::{Dropped, Tags};
@@ -62,6 +63,7 @@ pub struct Board {
     watched_volts: Vec<WatchedVolts>,
     /// On a script's board; else none.
     downloads: Option<Downloads>,
+    ticks: Ticks,
 }
 
 impl Board {
@@ -85,6 +87,7 @@ impl Board {
             tags: Default::default(),
             watched_volts: Vec::new(),
             downloads: None,
+            ticks: Ticks::default(),
         }
     }
 
@@ -154,6 +157,7 @@ impl Board {
         self.watch_reset(c);
         self.watch_group_reset(c);
         self.watch_crc_reset(c);
+        self.watch_tick_reset(c);
         self.ch[c] = Channel::new();
     }
 
@@ -256,6 +260,7 @@ impl Board {
             self.tally.is_hidden = !self.shows(role, c);
             // document 02, request 10: "that of the state just before that tick"
             let quiet = self.ch[c].quiet(self.now);
+            self.watch_tick(c, quiet);
             let command = if self.ch[c].waiting.is_some() { self.tick_command(c) } else { None };
             let setpoint = if self.ch[c].function.is_some() { self.tick_channel(c, setpoints) } else { None };
             // never both: what is due leaves on the next tick; it became due on an idle channel, by D0 or Group End, and a

@@ -3,6 +3,7 @@
 //! Time is absolute: a function knows the tick on which its next frame leaves, counted since the
 //! board was opened. Registers are kept as the words that the map shows, at half their offset.
 
+use crate::last_tick::rows::How;
 use crate::last_tick::LastTick;
 use crate::volts::Reading;
 
@@ -71,6 +72,28 @@ pub struct Function {
     pub sent: Option<Sent>,
     /// No send since the latest Start.
     pub fresh: bool,
+    /// For the tally alone, as is `last_send`.
+    pub loaded: Loaded,
+    /// The last setpoint send since the latest Start: its tick, and the period after it.
+    pub last_send: Option<(u64, u64)>,
+}
+
+/// The latest Start or Resume that worked.
+#[derive(Clone, Copy)]
+pub struct Loaded {
+    pub at: u64,
+    pub delay: u64,
+    /// None for a Resume.
+    pub start: Option<How>,
+    /// Its number; 5 is Commands D1, and 0 a Start.
+    pub resume: u32,
+}
+
+impl Function {
+    /// One that begins, with its first word due on this tick.
+    pub fn new(due: u64, loaded: Loaded) -> Function {
+        Function { due, index: 0, held: None, resume: None, ended: false, sent: None, fresh: true, loaded, last_send: None }
+    }
 }
 
 /// A command frame that waits (document 02, request 1).
@@ -155,6 +178,11 @@ impl Channel {
     pub fn delay(&self, k: u32, user: u32) -> u64 {
         let at = DELAYS + 16 * k as usize + 2 * (user as usize - 1);
         (self.w[at] as u64) << 16 | self.w[at + 1] as u64
+    }
+    /// The delay that the same would load now, by the registers.
+    pub fn delay_of(&self, loaded: Loaded, user: u32) -> u64 {
+        let by_command = loaded.start.is_some_and(|how| how.by_command) || loaded.resume == 5;
+        if by_command { 0 } else { self.delay(loaded.resume, user) }
     }
     /// "0, 1, 2, 3 give a period of 10,000, 1,000, 100, 10 µs"
     pub fn period(&self) -> u64 {

@@ -14,6 +14,7 @@ mod download;
 mod end_word;
 mod entries;
 mod files;
+mod last_tick;
 mod missing;
 mod ramp;
 mod roles;

@@ -1,5 +1,8 @@
 //! What the last tick did to a channel: document 02, request 10, whose list this is, in its order.
 
+pub mod rows;
+pub mod watch;
+
 use std::fmt;
 
 /// "no tick yet, sent, disarmed, idle, start delay, start gap, resume gap, or between clock edges"

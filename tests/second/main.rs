@@ -5,8 +5,8 @@
 //!                                  reads standard input to its end, prints what the product's
 //!                                  program of that name prints
 //!   second gen DIR SEED COUNT      writes COUNT run files, COUNT call scripts, a script of ramps and one of voltages
-//!                                  for every tenth, one of downloads and one of roles for every twentieth, and some
-//!                                  that are the same for any seed
+//!                                  for every tenth, one of downloads, one of roles and one of last ticks for every
+//!                                  twentieth, and some that are the same for any seed
 //!   second answers DIR             writes this program's answers beside those files
 //!   second summary DIR             what the files of DIR reach
 //!   second selftest                document 01's starred examples, and examples of requests 3 to 9

@@ -2,7 +2,10 @@
 
 use crate::answer::{answer, ticks, Answer};
 use crate::board::{Board, Setpoint};
+use crate::last_tick::rows::Came;
+use crate::last_tick::watch::{Before, Watch};
 use crate::role::{Access, Role::Examiner};
+use crate::script::last_tick::of_write;
 use std::fmt::Write;
 
 const N: u32 = 16;
@@ -125,6 +128,20 @@ fn last_ticks(board: &mut Board) -> String {
     text
 }
 
+/// A record as the tally of last ticks sees it.
+fn came(record: &[u8]) -> Came {
+    let (a, b) = (number(record, 0) >> 16, number(record, 4));
+    match record[0] {
+        1 => of_write(a, b),
+        4 => Came::Event,
+        5 => Came::Ticks(b),
+        7 => Came::User,
+        8 if b == 1 => Came::Arm,
+        8 => Came::Disarm,
+        _ => Came::Other,
+    }
+}
+
 /// The same alone.
 pub fn why(file: &[u8]) -> String {
     let Ok(records) = records(file) else { return "file 8\n".into() };
@@ -142,17 +159,22 @@ pub struct Told {
     pub why: String,
     pub answers: Vec<Answer>,
     pub bench: Bench,
+    /// What `why` shows of last ticks.
+    pub watch: Watch,
 }
 
 pub fn tell(file: &[u8]) -> Told {
     let mut bench = Bench::new();
     let Ok(records) = records(file) else {
         let [line, trace, why] = ["file 8\n"; 3].map(String::from);
-        return Told { line, trace, why, answers: vec![Answer::Refused(8)], bench };
+        return Told { line, trace, why, answers: vec![Answer::Refused(8)], bench, watch: Watch::default() };
     };
     let (mut trace, mut answers, mut counts) = (String::new(), Vec::new(), Counts::default());
+    let mut watch = Watch::default();
     for (k, record) in records.chunks(8).enumerate() {
+        let before = Before::new(&bench.board);
         let a = bench.step(record);
+        watch.step(came(record), &a, before, &bench.board);
         writeln!(trace, "{} {a}", k + 1).unwrap();
         counts.count(&a);
         answers.push(a);
@@ -167,5 +189,6 @@ pub fn tell(file: &[u8]) -> Told {
     }
     trace.push('\n');
     let why = last_ticks(&mut bench.board);
-    Told { line: counts.line(), trace, why, answers, bench }
+    watch.end(&bench.board);
+    Told { line: counts.line(), trace, why, answers, bench, watch }
 }

@@ -21,6 +21,7 @@
 //! long; of retired calls and portions: 0 own, 1 first short, 2 both empty, 3 the next channel's,
 //! 4 second short, 5 swapped, 6 first long, 7 own words parted one word early.
 
+pub mod last_tick;
 mod parts;
 mod record;
 pub mod roles;
@@ -29,6 +30,7 @@ use self::record::Record;
 use self::roles::Roles;
 use crate::answer::{answer, ticks, Answer};
 use crate::board::{Board, Portion, Setpoint};
+use crate::last_tick::watch::{Before, Watch};
 use crate::map::readable;
 use crate::ramp::{ramp, reached, Asked, Breakpoint};
 use crate::role::{Access, Permissions, Role};
@@ -207,8 +209,8 @@ impl Bench {
 pub struct Told {
     pub text: String,
     pub answers: Vec<Answer>,
-    /// The bench after it, and what it reaches of roles; none if it is no script.
-    pub end: Option<(Bench, Roles)>,
+    /// The bench after it, and what it reaches of roles and of last ticks; none if it is no script.
+    pub end: Option<(Bench, Roles, Watch)>,
 }
 
 pub fn tell(script: &[u8]) -> Told {
@@ -217,9 +219,11 @@ pub fn tell(script: &[u8]) -> Told {
     }
     let (mut bench, opened) = Bench::new(&script[..16]);
     let mut text = format!("0 {opened}\n");
-    let (mut answers, mut roles) = (vec![opened], Roles::default());
+    let (mut answers, mut roles, mut watch) = (vec![opened], Roles::default(), Watch::default());
     for (k, record) in script[16..].chunks(16).enumerate() {
+        let before = Before::new(&bench.board);
         let a = roles.step(&mut bench, record);
+        last_tick::step(&mut watch, record, &a, before, &bench.board);
         writeln!(text, "{} {a}", k + 1).unwrap();
         answers.push(a);
     }
@@ -241,5 +245,5 @@ pub fn tell(script: &[u8]) -> Told {
         write!(text, " {:04X}", bench.board.read(Role::Examiner, address).unwrap()).unwrap();
     }
     text.push('\n');
-    Told { text, answers, end: Some((bench, roles)) }
+    Told { text, answers, end: Some((bench, roles, watch)) }
 }

@@ -63,6 +63,7 @@ impl Board {
         }
         let waiting = ch.waiting.take()?;
         self.tally_sent(c, waiting.asked);
+        self.watch_tick_command(c, waiting.asked.bits);
         self.watch_tag_at_command(c, waiting.asked.bits & 1 == 1);
         self.watch_download_kept(c, Did::download_kept_over_command_sent);
         let ch = &mut self.ch[c];

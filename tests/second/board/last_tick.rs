@@ -1,5 +1,8 @@
 //! What the last tick did to a channel: document 02, request 10, whose quotations these are.
 
+mod reached;
+
+pub use self::reached::Ticks;
 use super::Board;
 use crate::channel::Channel;
 use crate::last_tick::LastTick;
@@ -29,5 +32,17 @@ impl Board {
         let c = Board::channel(c)?;
         self.may_read(role, c)?;
         Ok(self.ch[c].last_tick)
+    }
+
+    /// What one more tick would tell of a channel (0–3).
+    pub fn next_tick(&self, c: usize) -> LastTick {
+        let p = self.peek(c);
+        let is_due = p.command_is_due || (!p.idle && p.wait == 1);
+        if is_due { LastTick::Sent } else { self.ch[c].quiet(self.now + 1) }
+    }
+
+    /// What is told of each channel.
+    pub fn last_ticks(&self) -> [LastTick; 4] {
+        std::array::from_fn(|c| self.ch[c].last_tick)
     }
 }

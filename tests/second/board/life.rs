@@ -4,9 +4,10 @@
 use super::tag::Dropped;
 use super::volts::Idled;
 use super::Board;
-use crate::channel::{hold, status_of, Channel, Function, Hold, Sent, Window};
+use crate::channel::{hold, status_of, Channel, Function, Hold, Loaded, Sent, Window};
 use crate::channel::{ACTIVE, COUNT, EE, ENABLE, END, GE, ID, RUN, START, SWITCH, TAG};
 use crate::frame::frame;
+use crate::last_tick::rows::{How, To};
 use crate::tally::Did;
 use crate::volts::Reading;
 
@@ -124,7 +125,7 @@ impl Board {
     /// "It loads the current user's start delay (0 for a command) plus 10. The first setpoint
     /// leaves on the tick that brings the count to 0. [...] From idle it latches RUN; otherwise
     /// the function restarts, with no RUN."
-    fn start(&mut self, c: usize, by_command: bool) {
+    fn start(&mut self, c: usize, by_command: bool, is_ended: bool) {
         self.tally.add(if by_command { Did::start_by_command } else { Did::start_by_event });
         let ch = &mut self.ch[c];
         if !ch.armed {
@@ -132,7 +133,13 @@ impl Board {
             return;
         }
         let delay = if by_command { 0 } else { ch.delay(0, self.user) };
-        let mut f = Function { due: self.now + delay + 10, index: 0, held: None, resume: None, ended: false, sent: None, fresh: true };
+        let to = match ch.function {
+            Some(_) => To::Running,
+            None if is_ended => To::Ended,
+            None => To::Idle,
+        };
+        let loaded = Loaded { at: self.now, delay, start: Some(How { by_command, to }), resume: 0 };
+        let mut f = Function::new(self.now + delay + 10, loaded);
         if let Some(old) = ch.function.take() {
             f.sent = old.sent;
             self.tally.add(Did::restart);
@@ -164,6 +171,7 @@ impl Board {
             Some((_, Hold::Pause(_))) => {
                 // the delay's ticks, 9 silent ones, "the next word leaves on the 10th"
                 f.resume = Some(now + delay + 10);
+                f.loaded = Loaded { at: now, delay, start: None, resume: k };
                 let names = [Did::resume_1, Did::resume_2, Did::resume_3, Did::resume_4, Did::resume_vme];
                 self.tally.add(names[k as usize - 1]);
                 self.watch_tag_kept(c, Did::tag_kept_over_resume);
@@ -190,7 +198,7 @@ impl Board {
                     self.tally.add(Did::start_then_resume);
                 }
             }
-            self.start(c, asked.by_command);
+            self.start(c, asked.by_command, asked.group_end);
         }
         for k in 1..=5 {
             if asked.resume[k] {
@@ -267,6 +275,7 @@ impl Board {
         self.look_back(c, is_next);
         self.watch_volts_send(c, sending);
         self.watch_download_send(c);
+        self.watch_tick_send(c, sending.kind);
         let (now, user) = (self.now, self.user);
         let index = self.ch[c].function.as_ref()?.index;
         let at = self.word_at(c, user, self.ch[c].active_setpoint(user), index);
@@ -280,6 +289,7 @@ impl Board {
         f.fresh = false;
         // "After a send the next follows one period later."
         f.due = now + period;
+        f.watch_period(now, period);
         let held = f.held.map(|(_, h)| h);
         let id = ch.w[ID] as u8;
         let flags = flags(is_next && index == 0, held, user);

@@ -4,6 +4,7 @@ use super::commands::{command, command_with_full_buffer};
 use super::dice::Dice;
 use super::download::{download, glance};
 use super::end_word::{end_word, fill};
+use super::last_tick::{self, last_tick};
 use super::missing::missing;
 use super::roles::role;
 use super::story::{delay, load, reply, ticks, word, Taste, BASE};
@@ -67,13 +68,18 @@ pub fn act(world: &mut World, d: &Dice, t: &Taste) {
     if world.is_script() && d.chance(5) {
         glance(world, &s);
     }
+    if world.is_script() && d.chance(10) {
+        last_tick::ask(world, &s);
+    }
 }
 
 /// An act around what the taste has in percent, if it is so drawn. All but tags are of scripts alone.
 fn of_taste(world: &mut World, s: &Scene) -> bool {
     let (t, is_script) = (s.t, world.is_script());
-    let acts: [(u32, bool, fn(&mut World, &Scene)); 4] =
-        [(t.tags, true, tag), (t.volts, is_script, volts), (t.downloads, is_script, download), (t.roles, is_script, role)];
+    let acts: [(u32, bool, fn(&mut World, &Scene)); 5] = [
+        (t.tags, true, tag), (t.volts, is_script, volts), (t.downloads, is_script, download), (t.roles, is_script, role),
+        (t.last_ticks, is_script, last_tick),
+    ];
     for (percent, is_open, act) in acts {
         if is_open && s.d.chance(percent) {
             act(world, s);

@@ -3,6 +3,7 @@
 use super::crc::every_entry;
 use super::dice::Dice;
 use super::download::download_script;
+use super::last_tick::{ending, last_tick_script, pose_files, pose_scripts, walk_files, walk_script, WALKS};
 use super::ramp::ramp_script;
 use super::roles::{register_script, role_script, sweep_scripts};
 use super::story::{story, story_of_tags, BASE, DEPTHS_M, DEPTHS_N};
@@ -91,6 +92,9 @@ fn run_file(d: &Dice, i: u32) -> Vec<u8> {
             story(&mut world, d, acts);
         }
     }
+    if i % 40 > 4 {
+        ending(&mut world, d, 1 + i % 4);
+    }
     let records = world.bytes;
     match i % 16 {
         6 => file(d, &records, Some(i / 16 % 12)),
@@ -170,20 +174,31 @@ fn whole_map(quarter: u32) -> Vec<u8> {
     file(&Dice::new(0), &records, None)
 }
 
-pub fn generate(dir: &Path, seed: u64, count: u32) -> std::io::Result<()> {
-    fs::create_dir_all(dir)?;
+/// Files that are the same for any seed.
+fn same_files(dir: &Path) -> std::io::Result<()> {
+    let whole = |records: &[u8]| file(&Dice::new(0), records, None);
     fs::write(dir.join("delay.run"), long_delay())?;
     fs::write(dir.join("count.run"), high_count())?;
-    fs::write(dir.join("crc.run"), file(&Dice::new(0), &every_entry(World::run()), None))?;
+    fs::write(dir.join("crc.run"), whole(&every_entry(World::run())))?;
     let header = [1, 64, 0, 0].map(u32::to_le_bytes).concat();
     fs::write(dir.join("crc.calls"), every_entry(World::script_of_examiner(header)))?;
     fs::write(dir.join("registers.calls"), register_script())?;
-    for (name, script) in sweep_scripts() {
+    let walks = WALKS.map(|name| (format!("walk-{name}"), walk_script(name)));
+    for (name, script) in sweep_scripts().into_iter().chain(pose_scripts()).chain(walks) {
         fs::write(dir.join(format!("{name}.calls")), script)?;
+    }
+    for (name, records) in pose_files().into_iter().chain(walk_files()) {
+        fs::write(dir.join(format!("{name}.run")), whole(&records))?;
     }
     for quarter in 0..4 {
         fs::write(dir.join(format!("map-{quarter}.run")), whole_map(quarter))?;
     }
+    Ok(())
+}
+
+pub fn generate(dir: &Path, seed: u64, count: u32) -> std::io::Result<()> {
+    fs::create_dir_all(dir)?;
+    same_files(dir)?;
     for i in 0..count {
         let d = Dice::new(seed ^ (i as u64) << 32 ^ 0x52);
         fs::write(dir.join(format!("{i:04}.run")), run_file(&d, i))?;
@@ -200,6 +215,8 @@ pub fn generate(dir: &Path, seed: u64, count: u32) -> std::io::Result<()> {
             fs::write(dir.join(format!("download-{i:04}.calls")), download_script(&d, i / 20))?;
             let d = Dice::new(seed ^ (i as u64) << 32 ^ 0x53);
             fs::write(dir.join(format!("roles-{i:04}.calls")), role_script(&d, i / 20))?;
+            let d = Dice::new(seed ^ (i as u64) << 32 ^ 0x57);
+            fs::write(dir.join(format!("last-tick-{i:04}.calls")), last_tick_script(&d, i / 20))?;
         }
     }
     Ok(())

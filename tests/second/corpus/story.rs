@@ -35,6 +35,8 @@ pub struct Taste {
     pub downloads: u32,
     /// Acts around roles, in percent.
     pub roles: u32,
+    /// Acts around what the last tick did, in percent.
+    pub last_ticks: u32,
 }
 
 impl Taste {
@@ -60,6 +62,7 @@ impl Taste {
             volts: 3,
             downloads: 2,
             roles: 1,
+            last_ticks: 2,
         }
     }
 
@@ -78,6 +81,11 @@ impl Taste {
     /// Little but downloads, the same way.
     fn of_downloads(d: &Dice) -> Taste {
         Taste { volts: 0, downloads: 85, ..Taste::of_volts(d) }
+    }
+
+    /// Little but what the last tick did, with all periods.
+    fn of_last_ticks(d: &Dice) -> Taste {
+        Taste { quirks: 2, volts: 0, downloads: 0, last_ticks: 80, pauses: 40, ..Taste::new(d) }
     }
 
     /// Many acts around roles, and some of every other kind.
@@ -204,6 +212,10 @@ pub fn story_of_roles(world: &mut World, d: &Dice, acts: u32) {
     story_of(world, d, &Taste::of_roles(d), acts);
 }
 
+pub fn story_of_last_ticks(world: &mut World, d: &Dice, acts: u32) {
+    story_of(world, d, &Taste::of_last_ticks(d), acts);
+}
+
 fn story_of(world: &mut World, d: &Dice, t: &Taste, acts: u32) {
     world.put(Op::Write(0x22, d.of(&[1, 3, 7, 0xFFFF])), d);
     world.put(Op::Write(0x26, d.of(&[0xF0, 0xFFFF, 0x10, d.below(65_536) as u16])), d);
@@ -255,7 +267,7 @@ fn reopen(world: &mut World, d: &Dice) {
                 Op::Retired { c, length: false, lent: 0 }, Op::Disarm(c), Op::Write(BASE * c + 0xFC, 1), Op::Write(BASE * c + 0xFC, 2),
                 Op::Write(BASE * c + 0xE0, 0x0315), Op::Read(BASE * c + 0xE0), Op::Read(BASE * c + 0x0C),
                 Op::Write(BASE * c + 8, 8), Op::Write(BASE * c + 0x2C, 0x101), Op::Read(BASE * c + 0x2C), Op::Volts { c, lent: 0 },
-                Op::Download { c, lent: 0 }, Op::Portion { c, first: 0, length: d.below(2), is_length: true, lent: d.of(&[0, 0, 6]) },
+                Op::LastTick { c, lent: 0 }, Op::Download { c, lent: 0 }, Op::Portion { c, first: 0, length: d.below(2), is_length: true, lent: d.of(&[0, 0, 6]) },
             ]);
             world.put(op, d);
         }

@@ -2,6 +2,7 @@
 
 use super::entries::Entries;
 use crate::answer::Answer;
+use crate::last_tick::rows::{wanted_of_run_files, wanted_of_scripts, Counts as LastTicks, Row};
 use crate::map::{readable, writable};
 use crate::script::roles::{wanted, Counts, Registers, Roles};
 use crate::tally::{Tally, DID};
@@ -49,6 +50,7 @@ struct Reach {
     did: Tally,
     roles: Counts,
     registers: Registers,
+    last_ticks: LastTicks,
     /// Of the list of remainders, by frames without auxiliary bits and with them.
     entries: [Entries; 2],
 }
@@ -64,6 +66,7 @@ impl Reach {
             did: Tally::new(),
             roles: Counts::new(),
             registers: Registers::default(),
+            last_ticks: LastTicks::new(),
             entries: [Entries::new(), Entries::new()],
         }
     }
@@ -87,6 +90,10 @@ impl Reach {
     fn add_roles(&mut self, roles: &Roles) {
         roles.counts.iter().for_each(|(row, count)| *self.roles.entry(*row).or_default() += count);
         self.registers.join(&roles.registers);
+    }
+    /// What a file reaches of last ticks.
+    fn add_last_ticks(&mut self, counts: &LastTicks) {
+        counts.iter().for_each(|(row, count)| *self.last_ticks.entry(*row).or_default() += count);
     }
     /// A frame of these 32 middle bits.
     fn look_up(&mut self, middle: u32) {
@@ -189,6 +196,19 @@ fn roles(calls: &Reach) -> Vec<String> {
     missing
 }
 
+/// Prints what files of one kind reach of last ticks, and answers what they do not.
+fn last_ticks(reach: &Reach, files: &str, wanted: Vec<Row>) -> Vec<String> {
+    let mut missing = Vec::new();
+    for row in wanted {
+        let count = reach.last_ticks.get(&row).copied().unwrap_or(0);
+        println!("last tick {row:?} {count} in {files}");
+        if count == 0 {
+            missing.push(format!("last tick {row:?} in {files}"));
+        }
+    }
+    missing
+}
+
 /// What the files of a directory reach; false if something is not reached at all.
 pub fn summary(dir: &Path) -> std::io::Result<bool> {
     let (mut runs, mut calls) = (Reach::new(), Reach::new());
@@ -198,13 +218,15 @@ pub fn summary(dir: &Path) -> std::io::Result<bool> {
                 let told = runfile::tell(&fs::read(&path)?);
                 runs.add(&told.answers);
                 runs.did.join(&told.bench.board.tally);
+                runs.add_last_ticks(&told.watch.counts);
             }
             "calls" => {
                 let told = script::tell(&fs::read(&path)?);
                 calls.add(&told.answers);
-                if let Some((bench, roles)) = told.end {
+                if let Some((bench, roles, watch)) = told.end {
                     calls.did.join(&bench.board.tally);
                     calls.add_roles(&roles);
+                    calls.add_last_ticks(&watch.counts);
                 }
             }
             _ => {}
@@ -215,6 +237,8 @@ pub fn summary(dir: &Path) -> std::io::Result<bool> {
     let mut missing = refusals(&runs, &calls);
     missing.extend(done(&runs, &calls));
     missing.extend(roles(&calls));
+    missing.extend(last_ticks(&runs, "run files", wanted_of_run_files()));
+    missing.extend(last_ticks(&calls, "scripts", wanted_of_scripts()));
     missing.extend(remainders(&runs, &calls));
     if !missing.is_empty() {
         println!("not reached: {}", missing.join(", "));

@@ -29,6 +29,7 @@ pub enum Op {
     Volts { c: u32, lent: u8 },
     Download { c: u32, lent: u8 },
     Portion { c: u32, first: u32, length: u32, is_length: bool, lent: u8 },
+    LastTick { c: u32, lent: u8 },
     /// A whole record as it stands.
     Raw([u8; 16]),
 }
@@ -59,7 +60,7 @@ fn as_run_record(op: Op, dice: &Dice) -> Option<[u8; 8]> {
         Op::Disarm(c) => run_record(8, c, 0, 0),
         Op::Raw(r) => [r[0], r[1], r[2], r[3], r[4], r[5], r[6], r[7]],
         Op::Retired { .. } | Op::Level | Op::Open { .. } | Op::Poke { .. } | Op::Ramp { .. } | Op::Volts { .. } => return None,
-        Op::Download { .. } | Op::Portion { .. } | Op::OpenFor { .. } => return None,
+        Op::Download { .. } | Op::Portion { .. } | Op::OpenFor { .. } | Op::LastTick { .. } => return None,
     })
 }
 
@@ -127,6 +128,10 @@ fn as_script_record(op: Op, dice: &Dice, spite: u32) -> [u8; 16] {
             let any = anything(dice);
             script_record(if is_length { 18 } else { 17 }, c, lent, any, first, length, any)
         }
+        Op::LastTick { c, lent } => {
+            let any = anything(dice);
+            script_record(19, c, lent, any, any, any, any)
+        }
         Op::Raw(bytes) => bytes,
     }
 }
@@ -193,10 +198,11 @@ impl World {
         }
     }
     /// No story lets a closed board come to a send: it has no word to send (CALLS.md).
-    fn is_closed_and_sends(&self) -> bool {
+    fn is_closed_and_sends(&self, record: &[u8]) -> bool {
+        let ticks = u16::from_le_bytes([record[4], record[5]]) as u64;
         let sends = |c| {
             let p = self.board().peek(c);
-            !p.idle || p.command_is_due
+            (!p.idle && p.wait <= ticks) || p.command_is_due
         };
         self.board().n == 0 && (0..4).any(sends)
     }
@@ -245,7 +251,7 @@ impl World {
     }
     /// A record on the bench and in the file, unless that is full.
     fn step(&mut self, record: &[u8]) -> Option<Answer> {
-        if self.bytes.len() + 16 > 65_536 || (record[0] == 9 && self.is_closed_and_sends()) {
+        if self.bytes.len() + 16 > 65_536 || (record[0] == 9 && self.is_closed_and_sends(record)) {
             return None;
         }
         self.bytes.extend(record);

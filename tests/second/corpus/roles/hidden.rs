@@ -5,7 +5,7 @@ use super::Turn;
 use crate::corpus::world::{Op, World};
 use crate::role::Role;
 
-pub const COUNT: u32 = 13;
+pub const COUNT: u32 = 14;
 
 /// The scene of this number.
 pub fn hidden(world: &mut World, t: &Turn, number: u32) {
@@ -22,6 +22,7 @@ pub fn hidden(world: &mut World, t: &Turn, number: u32) {
         9 => stored_word(world, t),
         10 => command(world, t),
         11 => tag(world, t),
+        12 => last_tick(world, t),
         _ => commands(world, t),
     }
 }
@@ -153,6 +154,20 @@ fn tag(world: &mut World, t: &Turn) {
     t.examine(world, t.reply());
     t.examine(world, Op::Write(t.at() + 8, 4));
     t.examine(world, Op::Retired { c: t.c, length: false, lent: 0 });
+}
+
+/// It is what the last tick did, be it a setpoint's frame or a command frame.
+fn last_tick(world: &mut World, t: &Turn) {
+    t.start(world, &[0]);
+    t.examine(world, Op::Ticks(9));
+    candidate_ticks(world, t, 1);
+    t.examine(world, Op::LastTick { c: t.c, lent: 0 });
+    t.load(world, &[0]);
+    for op in [Op::Arm(t.c), Op::Ticks(1), Op::Write(t.at() + 0xFC, 1)] {
+        t.examine(world, op);
+    }
+    candidate_ticks(world, t, 1);
+    t.examine(world, Op::LastTick { c: t.c, lent: 0 });
 }
 
 /// Command frames of all channels on one tick.

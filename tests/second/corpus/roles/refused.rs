@@ -52,7 +52,7 @@ pub fn no_channel(world: &mut World, t: &Turn) {
     let c = t.d.of(&[0, 5, 255, 8 + t.c, 128 + t.c]);
     let ops = [
         Op::Set { c, user: 1, buffer: 1, index: 0, word: 1 }, Op::Arm(c), Op::Disarm(c), Op::Reply(c, 3),
-        Op::Volts { c, lent: 0 }, Op::Retired { c, length: true, lent: 0 }, Op::Retired { c, length: false, lent: 0 },
+        Op::Volts { c, lent: 0 }, Op::LastTick { c, lent: 0 }, Op::Retired { c, length: true, lent: 0 }, Op::Retired { c, length: false, lent: 0 },
         Op::Download { c, lent: 0 }, Op::Portion { c, first: 0, length: 0, is_length: true, lent: 0 },
     ];
     for op in ops {

@@ -3,7 +3,7 @@
 use super::Turn;
 use crate::corpus::world::{Op, World};
 
-pub const COUNT: u32 = 21;
+pub const COUNT: u32 = 22;
 
 /// The scene of this number.
 pub fn scene(world: &mut World, t: &Turn, number: u32) {
@@ -28,6 +28,7 @@ pub fn scene(world: &mut World, t: &Turn, number: u32) {
         17 => reset(world, t),
         18 => start(world, t),
         19 => switch(world, t),
+        20 => last_tick(world, t),
         _ => command(world, t),
     }
 }
@@ -195,6 +196,16 @@ fn switch(world: &mut World, t: &Turn) {
     t.ask(world, Op::Write(t.at() + 0x30 + 2 * t.d.below(8), 1));
     t.examine(world, Op::Write(t.at() + 8, 4));
     t.examine(world, Op::Read(t.at() + 0x0E));
+}
+
+/// Of a function that waits, of one that sent, and of a channel that was reset.
+fn last_tick(world: &mut World, t: &Turn) {
+    t.start(world, &[0]);
+    for op in [Op::Ticks(9), Op::Ticks(1), Op::Write(t.at() + 6, 1)] {
+        t.examine(world, op);
+        t.ask(world, Op::LastTick { c: t.c, lent: 0 });
+        t.examine(world, Op::LastTick { c: t.c, lent: 0 });
+    }
 }
 
 /// A command frame leaves, or not.

@@ -38,6 +38,7 @@ pub enum Call {
     OpenDownload,
     Portion,
     PortionLength,
+    LastTick,
     WriteMain,
     ReadMain,
     ChangeUser,
@@ -47,10 +48,10 @@ pub enum Call {
 }
 
 /// Those that name a channel.
-pub const OF_CHANNEL: [Call; 15] = [
+pub const OF_CHANNEL: [Call; 16] = [
     Call::WriteSetpoint, Call::WriteRegister, Call::Arm, Call::Disarm, Call::Reply, Call::ReadRegister,
     Call::ReadInterruptStatus, Call::ReadPollingStatus, Call::ReadMissingCount, Call::Voltages, Call::Retired,
-    Call::RetiredLength, Call::OpenDownload, Call::Portion, Call::PortionLength,
+    Call::RetiredLength, Call::OpenDownload, Call::Portion, Call::PortionLength, Call::LastTick,
 ];
 
 /// Those that are the examiner's.
@@ -83,6 +84,7 @@ impl Call {
             16 => Call::OpenDownload,
             17 => Call::Portion,
             18 => Call::PortionLength,
+            19 => Call::LastTick,
             _ => return None,
         })
     }
@@ -93,7 +95,9 @@ impl Call {
         match self {
             WriteSetpoint | WriteRegister | Arm | Disarm | Reply => &[Permission::Write],
             ReadInterruptStatus | ReadPollingStatus | ReadMissingCount => &[Permission::Read, Permission::Write],
-            ReadRegister | Voltages | Retired | RetiredLength | OpenDownload | Portion | PortionLength => &[Permission::Read],
+            ReadRegister | Voltages | Retired | RetiredLength | OpenDownload | Portion | PortionLength | LastTick => {
+                &[Permission::Read]
+            }
             WriteMain | ReadMain | ChangeUser | Level | Tick | Event => &[],
         }
     }
@@ -106,7 +110,7 @@ impl Call {
     /// It may change something.
     pub fn is_change(self) -> bool {
         use self::Call::*;
-        !matches!(self, ReadRegister | Voltages | Retired | RetiredLength | Portion | PortionLength | Level)
+        !matches!(self, ReadRegister | Voltages | Retired | RetiredLength | Portion | PortionLength | LastTick | Level)
     }
 }
 
@@ -114,7 +118,7 @@ impl Call {
 pub fn channel(r: Record) -> Option<usize> {
     let c = match r.kind {
         1 | 2 => r.x / 0x800,
-        3..=8 | 15..=18 => r.c as u32,
+        3..=8 | 15..=19 => r.c as u32,
         _ => return None,
     };
     (1..=4).contains(&c).then(|| c as usize - 1)

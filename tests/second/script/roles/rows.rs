@@ -84,14 +84,14 @@ const CHANGES: [Change; 8] = [
 ];
 
 /// Each call with a reason that is checked before 13.
-const BEFORE: [(Call, Reason); 20] = [
+const BEFORE: [(Call, Reason); 21] = [
     (Call::WriteSetpoint, Reason::Misfit), (Call::WriteSetpoint, Reason::NoChannel), (Call::WriteRegister, Reason::Misfit),
     (Call::WriteRegister, Reason::Unmapped), (Call::WriteRegister, Reason::PastChannels), (Call::Arm, Reason::NoChannel),
     (Call::Disarm, Reason::NoChannel), (Call::Reply, Reason::Misfit), (Call::Reply, Reason::NoChannel),
     (Call::ReadRegister, Reason::Unmapped), (Call::ReadRegister, Reason::PastChannels), (Call::Voltages, Reason::NoChannel),
     (Call::RetiredLength, Reason::Misfit), (Call::RetiredLength, Reason::NoChannel), (Call::OpenDownload, Reason::NoChannel),
     (Call::PortionLength, Reason::Misfit), (Call::PortionLength, Reason::NoChannel), (Call::WriteMain, Reason::Misfit),
-    (Call::WriteMain, Reason::Unmapped), (Call::ReadMain, Reason::Unmapped),
+    (Call::WriteMain, Reason::Unmapped), (Call::ReadMain, Reason::Unmapped), (Call::LastTick, Reason::NoChannel),
 ];
 
 /// Each call that names a channel with a reason that is checked after 13. A refused part is told from an empty one by the
@@ -104,10 +104,11 @@ const AFTER: [(Call, Reason); 11] = [
 ];
 
 /// By what a frame that was not shown, a setpoint's or a command's, is told to count as sent.
-const TELLS: [(bool, Call); 13] = [
+const TELLS: [(bool, Call); 15] = [
     (false, Call::Tick), (false, Call::Reply), (false, Call::ReadRegister), (false, Call::ReadInterruptStatus),
     (false, Call::ReadPollingStatus), (false, Call::ReadMissingCount), (false, Call::Voltages), (false, Call::Retired),
     (false, Call::ReadMain), (false, Call::Level), (true, Call::Tick), (true, Call::Reply), (true, Call::ReadRegister),
+    (false, Call::LastTick), (true, Call::LastTick),
 ];
 
 /// All rows.
