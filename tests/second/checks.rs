@@ -1,8 +1,9 @@
-//! `selftest`: document 01's starred examples, and examples of document 02's requests 3 to 9, run on this program.
+//! `selftest`: document 01's starred examples, and examples of document 02's requests 3 to 10, run on this program.
 
 mod crc;
 mod download;
 mod end_word;
+mod last_tick;
 mod ramp;
 mod roles;
 mod tag;
@@ -76,7 +77,9 @@ impl Small {
 type Done = Vec<(&'static str, bool)>;
 
 pub fn all() -> Done {
-    let of_requests = [end_word::all(), ramp::all(), crc::all(), tag::all(), volts::all(), download::all(), roles::all()];
+    let of_requests = [
+        end_word::all(), ramp::all(), crc::all(), tag::all(), volts::all(), download::all(), roles::all(), last_tick::all(),
+    ];
     [frames(), starts(), resumes(), kept_words(), files(), of_requests.concat()].concat()
 }
 

@@ -9,7 +9,7 @@
 //!                                  twentieth, and some that are the same for any seed
 //!   second answers DIR             writes this program's answers beside those files
 //!   second summary DIR             what the files of DIR reach
-//!   second selftest                document 01's starred examples, and examples of requests 3 to 9
+//!   second selftest                document 01's starred examples, and examples of requests 3 to 10
 
 mod answer;
 mod board;

@@ -97,18 +97,43 @@ impl Pose {
     }
 }
 
-/// So many changes there are.
-const CHANGES: usize = 24;
+/// Command frames: the bits of FC, what comes between, and the ticks.
+const COMMANDS: [(u16, Between, u32); 10] = [
+    (1, Between::Nothing, 1), (1, Between::StartEvent, 1), (1, Between::StartCommand, 1), (1, Between::StartEvent, 2),
+    (2, Between::End, 1), (2, Between::EndAndStartEvent, 1), (2, Between::EndAndStartCommand, 1), (2, Between::End, 2),
+    (2, Between::EndAndStartEvent, 2), (2, Between::EndAndStartCommand, 2),
+];
+
+#[derive(Clone, Copy)]
+enum Between {
+    Nothing,
+    StartEvent,
+    StartCommand,
+    End,
+    EndAndStartEvent,
+    EndAndStartCommand,
+}
+
+/// The changes that are no command frames, and so many changes there are.
+const PLAIN: usize = 19;
+const CHANGES: usize = PLAIN + COMMANDS.len();
 
 /// A write to a register of each channel.
 fn write_all(world: &mut World, d: &Dice, offset: u32, value: u16) {
     (1..=4).for_each(|c| world.put(Op::Write(BASE * c + offset, value), d));
 }
 
-/// Start, with this delay and this bit of the events' registers; all channels have the same codes.
+/// An event of this code, which the register at this offset of each channel has.
 fn event(world: &mut World, d: &Dice, offset: u32, code: u16) {
     write_all(world, d, offset, 0x100 | code);
     world.put(Op::Event(code as u8), d);
+}
+
+/// Start, with this delay.
+fn start(world: &mut World, d: &Dice, delay: u16) {
+    write_all(world, d, 0x40, 0);
+    write_all(world, d, 0x42, delay);
+    event(world, d, 0x20, START);
 }
 
 /// The change of this number, to all channels.
@@ -119,11 +144,7 @@ fn change(world: &mut World, d: &Dice, number: usize) {
         2 => event(world, d, 0x2A, END),
         3 => write_all(world, d, 8, 4),
         4 => world.put(Op::User(2), d),
-        5 | 6 => {
-            write_all(world, d, 0x40, 0);
-            write_all(world, d, 0x42, if number == 5 { 50 } else { 0 });
-            event(world, d, 0x20, START);
-        }
+        5 | 6 => start(world, d, if number == 5 { 50 } else { 0 }),
         7 => write_all(world, d, 8, 1),
         8 => {
             write_all(world, d, 0x62, 0);
@@ -135,7 +156,7 @@ fn change(world: &mut World, d: &Dice, number: usize) {
     }
 }
 
-/// Command frames and resets.
+/// Command frames, resets and what is no reset.
 fn more(world: &mut World, d: &Dice, number: usize) {
     match number {
         11 => write_all(world, d, 0xFC, 1),
@@ -150,31 +171,26 @@ fn more(world: &mut World, d: &Dice, number: usize) {
             write_all(world, d, 6, 1);
             world.put(Op::Ticks(1), d);
         }
-        // a command frame on an idle channel, on a disarmed one, and before a Start with delay or without
-        19..=22 => {
-            write_all(world, d, 0xFC, if number == 19 { 1 } else { 2 });
-            command(world, d, number);
-            world.put(Op::Ticks(1), d);
-        }
         _ => {
-            write_all(world, d, 0xFC, 2);
-            write_all(world, d, 8, 4);
-            world.put(Op::Ticks(2), d);
+            let (bits, between, ticks) = COMMANDS[number - PLAIN];
+            write_all(world, d, 0xFC, bits);
+            before_command(world, d, between);
+            world.put(Op::Ticks(ticks), d);
         }
     }
 }
 
-/// What makes a command frame due.
-fn command(world: &mut World, d: &Dice, number: usize) {
-    match number {
-        20 => write_all(world, d, 8, 4),
-        21 => {
-            write_all(world, d, 0x42, 50);
-            write_all(world, d, 0x20, 0x100 | END);
-            event(world, d, 0x2A, END);
+fn before_command(world: &mut World, d: &Dice, between: Between) {
+    match between {
+        Between::Nothing => {}
+        Between::StartEvent => start(world, d, 50),
+        Between::StartCommand => write_all(world, d, 8, 1),
+        Between::End => write_all(world, d, 8, 4),
+        Between::EndAndStartEvent => {
+            write_all(world, d, 0x2A, 0x100 | START);
+            start(world, d, 50);
         }
-        22 => write_all(world, d, 8, 5),
-        _ => {}
+        Between::EndAndStartCommand => write_all(world, d, 8, 5),
     }
 }
 

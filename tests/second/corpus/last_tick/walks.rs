@@ -6,17 +6,19 @@ use crate::corpus::story::BASE;
 use crate::corpus::world::{Op, World};
 use crate::last_tick::rows::To;
 
-const DELAYS: [u32; 14] = [0, 1, 2, 5, 9, 10, 11, 25, 300, 5_000, 65_525, 65_535, 65_536, 70_000];
+const SHORT: [u32; 8] = [0, 1, 2, 5, 9, 10, 11, 25];
+const LONG: [u32; 6] = [300, 5_000, 65_525, 65_535, 65_536, 70_000];
 
 /// The scripts of walks, by name.
-pub const WALKS: [&str; 4] = ["start", "resume", "restart", "edge"];
+pub const WALKS: [&str; 5] = ["start", "resume", "resume-long", "restart", "edge"];
 
 pub fn walk_script(name: &str) -> Vec<u8> {
     let d = &Dice::new(12);
     let mut world = World::script_of_examiner([4, 4, 12, 0xFFFF].map(u32::to_le_bytes).concat());
     match name {
-        "start" => DELAYS.iter().for_each(|delay| start(&mut world, d, *delay)),
-        "resume" => DELAYS.iter().for_each(|delay| resume(&mut world, d, *delay)),
+        "start" => SHORT.iter().chain(&LONG).for_each(|delay| start(&mut world, d, *delay)),
+        "resume" => SHORT.iter().for_each(|delay| resume(&mut world, d, *delay)),
+        "resume-long" => LONG.iter().for_each(|delay| resume(&mut world, d, *delay)),
         "restart" => restart(&mut world, d),
         _ => (0..4).for_each(|clock| edges(&mut world, d, clock)),
     }
