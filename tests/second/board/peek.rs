@@ -9,6 +9,8 @@ pub struct Peek {
     pub idle: bool,
     /// Ticks to the function's next send.
     pub wait: u64,
+    /// Ticks to the word after a resume, 0 for none.
+    pub resume: u64,
     /// The pause (1–5) it is in, 0 for none.
     pub pause: u32,
     pub replies: Option<u32>,
@@ -32,6 +34,7 @@ impl Board {
             armed: ch.armed,
             idle: f.is_none(),
             wait: next.saturating_sub(self.now),
+            resume: f.and_then(|f| f.resume).map_or(0, |at| at - self.now),
             pause: match f.and_then(|f| f.held) {
                 Some((_, Hold::Pause(k))) => k,
                 _ => 0,

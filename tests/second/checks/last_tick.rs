@@ -185,7 +185,8 @@ fn seats() -> Done {
     t.each_tick(9);
     let mut ask = |role: Role| [1, 2, 3].map(|c| t.b.last_tick(role, c));
     let told = [ask(Examiner), ask(Candidate), ask(Watcher)];
-    let none = [0, 5, 9, 255, 256, u32::MAX].iter().all(|c| [Examiner, Candidate, Watcher].iter().all(|role| t.b.last_tick(*role, *c) == Err(2)));
+    let mut is_none = |c: u32| [Examiner, Candidate, Watcher].iter().all(|role| t.b.last_tick(*role, c) == Err(2));
+    let none = [0, 5, 9, 255, 256, u32::MAX].iter().all(|c| is_none(*c));
     // the frame is not shown to the watcher's seat, which may not tick, nor to a candidate that reads channel 2 alone
     let mut hidden = Small::open_for(7, &[5], Access { candidate: Permissions(0x02), watcher: Permissions(0x01) });
     hidden.write(0x808, 1);
@@ -205,14 +206,16 @@ fn seats() -> Done {
 fn files() -> Done {
     let empty = [8, 0, 0, 0, 0, 0, 0, 0];
     let ticks = [[5, 0, 0, 0, 1, 0, 0, 0], [16, 0, 0, 0, 1, 0, 0, 0]].concat();
-    let is_no_tick = |line: &str| line.ends_with(": no tick yet. No tick has come since the board was opened or the channel was reset.");
+    let no_tick = ": no tick yet. No tick has come since the board was opened or the channel was reset.";
+    let is_no_tick = |line: &str| line.ends_with(no_tick);
     let record = |kind: u8, c: u8, x: u8| {
         let mut r = [0; 16];
         (r[0], r[1], r[4]) = (kind, c, x);
         r
     };
     // header of N 0 and M 0; asked, no ticks, asked, one tick, asked, of no channel
-    let closed = [[0; 16], record(19, 4, 0), record(9, 0, 0), record(19, 4, 0), record(9, 0, 1), record(19, 4, 0), record(19, 5, 0)].concat();
+    let ask = record(19, 4, 0);
+    let closed = [[0; 16], ask, record(9, 0, 0), ask, record(9, 0, 1), ask, record(19, 5, 0)].concat();
     let said = "0 refused 1\n1 reason no-tick\n2 ticks\n3 reason no-tick\n4 ticks\n5 reason disarmed\n6 refused 2\nend ";
     vec![
         ("an empty run", runfile::why(&empty).lines().count() == 4 && runfile::why(&empty).lines().all(is_no_tick)),

@@ -52,10 +52,12 @@ fn ask_all_roles(world: &mut World, d: &Dice, c: u32) {
 /// One act of a story.
 pub fn last_tick(world: &mut World, s: &Scene) {
     let d = s.d;
-    if d.chance(50) {
-        wait(world, s);
-    }
-    for _ in 0..1 + d.below(3) {
+    for _ in 0..1 + d.below(4) {
+        let p = s.now(world);
+        let is_paused = p.pause > 0 && p.resume == 0;
+        if d.chance(if is_paused { 70 } else { 30 }) {
+            wait(world, s);
+        }
         ticks_around(world, s);
         ask(world, s);
         for _ in 0..d.below(3) {
@@ -90,9 +92,10 @@ fn wait(world: &mut World, s: &Scene) {
 /// Ticks that end around the end of a delay, a gap or a period.
 fn ticks_around(world: &mut World, s: &Scene) {
     let d = s.d;
-    let wait = s.now(world).wait.min(9_000) as u32;
-    let near = [wait, wait.saturating_sub(1), wait + 1, wait.saturating_sub(9), wait.saturating_sub(10), wait.saturating_sub(11)];
-    let count = if wait > 0 && d.chance(70) { d.of(&near) } else { d.of(&[1, 1, 2, 8, 9, 10, 11, d.below(60)]) };
+    let p = s.now(world);
+    let wait = if p.resume > 0 && d.chance(70) { p.resume } else { p.wait }.min(9_000) as u32;
+    let near = [0, 1, 1, 9, 10, 10, 11].map(|ticks| wait.saturating_sub(ticks));
+    let count = if wait > 0 && d.chance(70) { d.of(&near) } else { d.of(&[1, 1, 2, 8, 9, 10, 11, wait + 1, d.below(60)]) };
     world.put(Op::Ticks(count.max(1)), d);
 }
 
@@ -135,10 +138,8 @@ pub fn ending(world: &mut World, d: &Dice, c: u32) {
     if d.chance(60) {
         world.put(Op::Ticks(d.of(&[wait, wait.saturating_sub(1), wait + 1, 1, 9]).max(1)), d);
     }
-    let ops = [
-        Op::Disarm(c), Op::Arm(c), Op::Write(at + 8, 1), Op::Write(at + 8, 4), Op::Write(at + 6, 1), Op::Write(at + 0xFC, 1),
-        Op::User(1 + d.below(8)),
-    ];
+    let writes = [(8, 1), (8, 4), (6, 1), (0xFC, 1)].map(|(offset, value)| Op::Write(at + offset, value));
+    let ops = [&writes[..], &[Op::Disarm(c), Op::Arm(c), Op::User(1 + d.below(8))]].concat();
     if d.chance(60) {
         world.put(d.of(&ops), d);
     }

@@ -82,6 +82,12 @@ fn anything(dice: &Dice) -> u32 {
     if dice.chance(70) { 0 } else { dice.roll() as u32 }
 }
 
+/// A call that is given a channel and nothing else.
+fn of_channel(kind: u8, c: u32, lent: u8, dice: &Dice) -> [u8; 16] {
+    let any = anything(dice);
+    script_record(kind, c, lent, any, any, any, any)
+}
+
 /// A lent code of two buffers, 8 and more of which are the channel's own.
 pub fn lent_two(dice: &Dice) -> u8 {
     let own = 8 + dice.below(8) as u8;
@@ -120,17 +126,11 @@ fn as_script_record(op: Op, dice: &Dice, spite: u32) -> [u8; 16] {
             script_record(14, c as u32, lent, buffer as u32, n, any << 16 | count & 0xFFFF, remainders << 16 | codes & 0xFFFF)
         }
         Op::Volts { c, lent } => script_record(15, c, lent, 0, 0, 0, 0),
-        Op::Download { c, lent } => {
-            let any = anything(dice);
-            script_record(16, c, lent, any, any, any, any)
-        }
+        Op::Download { c, lent } => of_channel(16, c, lent, dice),
+        Op::LastTick { c, lent } => of_channel(19, c, lent, dice),
         Op::Portion { c, first, length, is_length, lent } => {
             let any = anything(dice);
             script_record(if is_length { 18 } else { 17 }, c, lent, any, first, length, any)
-        }
-        Op::LastTick { c, lent } => {
-            let any = anything(dice);
-            script_record(19, c, lent, any, any, any, any)
         }
         Op::Raw(bytes) => bytes,
     }

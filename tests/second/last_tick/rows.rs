@@ -236,11 +236,9 @@ fn of_delays() -> Vec<Row> {
 }
 
 fn of_sends() -> Vec<Row> {
-    let all = [
-        Send::FirstWord, Send::NextWord, Send::WordAfterResume, Send::RepeatOfPause, Send::RepeatInResumeDelay, Send::RepeatOfLast,
-    ];
-    let mut rows: Vec<Row> = all.map(Row::Sends).to_vec();
-    rows.extend([Send::NextWord, Send::RepeatOfPause, Send::RepeatInResumeDelay, Send::RepeatOfLast].map(Row::Waits));
+    let due = [Send::NextWord, Send::RepeatOfPause, Send::RepeatInResumeDelay, Send::RepeatOfLast];
+    let mut rows = vec![Row::Sends(Send::FirstWord), Row::Sends(Send::WordAfterResume)];
+    rows.extend(due.iter().flat_map(|send| [Row::Sends(*send), Row::Waits(*send)]));
     for period in [10, 100, 1_000, 10_000] {
         rows.extend([Edge::First, Edge::Last, Edge::Due].map(|edge| Row::Edge(period, edge)));
     }

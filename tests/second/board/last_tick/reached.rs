@@ -111,9 +111,12 @@ impl Board {
 impl Tick {
     fn rows_of_tick(self, told: LastTick) -> Vec<Row> {
         let mut rows = Vec::new();
-        for (is, length) in [(self.number == 1, Length::One), (self.number >= 1_000, Length::Long), (self.number == 65_535, Length::Longest)] {
-            rows.extend(is.then_some(Row::OfRecord(length, told)));
-        }
+        let lengths = [
+            (self.number == 1, Length::One),
+            (self.number >= 1_000, Length::Long),
+            (self.number == 65_535, Length::Longest),
+        ];
+        rows.extend(lengths.iter().filter(|length| length.0).map(|length| Row::OfRecord(length.1, told)));
         rows.extend((self.command > 0).then_some(Row::Command(self.command, self.quiet)));
         rows.extend((self.is_after_command && self.command == 0).then_some(Row::AfterCommand(told)));
         let is_hidden = self.is_hidden && told == LastTick::Sent;
