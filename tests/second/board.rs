@@ -17,6 +17,7 @@ mod rows;
 mod sending;
 mod setpoint;
 mod tag;
+mod tick;
 mod volts;
 
 pub use self::download::Portion;
@@ -33,7 +34,6 @@ use self::missing::Watch;
 use self::tag::{Dropped, Tags};
 use self::volts::{Idled, WatchedVolts};
 use crate::channel::{Channel, Window, CLOCK, SWITCH, TAG};
-use crate::last_tick::LastTick;
 use crate::map::{check_way, place, rule, Place};
 use crate::role::{Access, Role};
 use crate::tally::{Did, Tally};
@@ -247,32 +247,6 @@ impl Board {
         self.watch_idling(c, Did::missing_idled_by_disarm, Did::missing_kept_over_disarm);
         self.ch[c].function = None;
         self.ch[c].armed = false;
-        Ok(())
-    }
-
-    /// Refusals 1, 13, of the whole tick. "A tick answers with each channel's frame or none." Those that the role is shown go
-    /// to `show`, with their channels (0–3). Request 9: "a frame that a tick doesn't show still counts as sent".
-    pub fn tick(&mut self, role: Role, setpoints: &[u32], mut show: impl FnMut(usize, u64)) -> Result<(), u8> {
-        self.setpoints_fit(setpoints).inspect_err(|_| self.tally_tick_refused(role))?;
-        may_run(role)?;
-        self.now += 1;
-        for c in 0..4 {
-            self.tally.is_hidden = !self.shows(role, c);
-            // document 02, request 10: "that of the state just before that tick"
-            let quiet = self.ch[c].quiet(self.now);
-            self.watch_tick(c, quiet);
-            let command = if self.ch[c].waiting.is_some() { self.tick_command(c) } else { None };
-            let setpoint = if self.ch[c].function.is_some() { self.tick_channel(c, setpoints) } else { None };
-            // never both: what is due leaves on the next tick; it became due on an idle channel, by D0 or Group End, and a
-            // Start since then sends 10 ticks later at the earliest
-            assert!(command.is_none() || setpoint.is_none());
-            let sent = command.or(setpoint);
-            self.ch[c].last_tick = if sent.is_some() { LastTick::Sent } else { quiet };
-            if let Some(frame) = sent.filter(|_| self.shows(role, c)) {
-                show(c, frame);
-            }
-        }
-        self.tally.is_hidden = false;
         Ok(())
     }
 

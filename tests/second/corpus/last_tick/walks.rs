@@ -201,6 +201,10 @@ pub fn walk_files() -> Vec<(String, Vec<u8>)> {
         let name = |what: &str| format!("walk-{what}-{number}-{}", delays[0]);
         files.extend([(name("start"), started.bytes), (name("resume"), resumed.bytes), (name("later"), later.bytes)]);
     }
+    // 65,541 ticks to the first word of channel 4, which in 16 bits are 5
+    let mut long = World::run();
+    start_four(&mut long, d, 70_000, [70_000, 69_999, 69_991, 135_531]);
+    files.push(("walk-start-long".into(), long.bytes));
     for period in [10, 100, 1_000, 10_000] {
         for (name, count) in [("first", 11), ("last", 9 + period), ("due", 10 + period)] {
             files.push((format!("walk-{name}-{period}"), of_period(d, count)));
