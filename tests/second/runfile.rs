@@ -119,7 +119,7 @@ pub fn line(file: &[u8]) -> String {
 }
 
 /// What the last tick of a file did, of each channel (document 02, request 10).
-fn last_ticks(board: &mut Board) -> String {
+fn last_ticks(board: &Board) -> String {
     let mut text = String::new();
     for c in 1..=4 {
         let [words, sentence] = board.last_tick(Examiner, c).unwrap().told();
@@ -149,7 +149,7 @@ pub fn why(file: &[u8]) -> String {
     for record in records.chunks(8) {
         bench.step(record);
     }
-    last_ticks(&mut bench.board)
+    last_ticks(&bench.board)
 }
 
 /// The log line and the trace of a file, what `why` says to it, and the bench after it.
@@ -188,7 +188,7 @@ pub fn tell(file: &[u8]) -> Told {
         write!(trace, " r{}", bench.board.retired_count(c)).unwrap();
     }
     trace.push('\n');
-    let why = last_ticks(&mut bench.board);
+    let why = last_ticks(&bench.board);
     watch.end(&bench.board);
     Told { line: counts.line(), trace, why, answers, bench, watch }
 }

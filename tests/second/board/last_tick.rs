@@ -28,7 +28,7 @@ impl Channel {
 
 impl Board {
     /// Refusals 2, 13: "The call needs the read right." "For any channel, say what the last tick did".
-    pub fn last_tick(&mut self, role: Role, c: u32) -> Result<LastTick, u8> {
+    pub fn last_tick(&self, role: Role, c: u32) -> Result<LastTick, u8> {
         let c = Board::channel(c)?;
         self.may_read(role, c)?;
         Ok(self.ch[c].last_tick)

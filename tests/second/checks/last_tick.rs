@@ -9,7 +9,7 @@ use crate::role::{Access, Permissions, Role};
 use crate::{runfile, script};
 
 impl Small {
-    fn last(&mut self, c: u32) -> LastTick {
+    fn last(&self, c: u32) -> LastTick {
         self.b.last_tick(Examiner, c).unwrap()
     }
     /// What is told of channel 1 after each of so many ticks.
@@ -183,9 +183,9 @@ fn seats() -> Done {
     let mut t = Small::open_for(7, &[5], access);
     t.write(0x808, 1);
     t.each_tick(9);
-    let mut ask = |role: Role| [1, 2, 3].map(|c| t.b.last_tick(role, c));
+    let ask = |role: Role| [1, 2, 3].map(|c| t.b.last_tick(role, c));
     let told = [ask(Examiner), ask(Candidate), ask(Watcher)];
-    let mut is_none = |c: u32| [Examiner, Candidate, Watcher].iter().all(|role| t.b.last_tick(*role, c) == Err(2));
+    let is_none = |c: u32| [Examiner, Candidate, Watcher].iter().all(|role| t.b.last_tick(*role, c) == Err(2));
     let none = [0, 5, 9, 255, 256, u32::MAX].iter().all(|c| is_none(*c));
     // the frame is not shown to the watcher's seat, which may not tick, nor to a candidate that reads channel 2 alone
     let mut hidden = Small::open_for(7, &[5], Access { candidate: Permissions(0x02), watcher: Permissions(0x01) });
