@@ -59,8 +59,9 @@ const RECORDED: &[(&str, &str, usize, &str)] = &[
     (RULES, "card 7", 625, "d6f5a8d7cfe11f20afd30e2aa335dbbaab455d4125cc10f055a058b3c70a26be"),
     (RULES, "card 8", 637, "9eddcaf48318cc459ea961e5a83fec57648c4f0074605d73e58e549dd5155706"),
     (RULES, "card 9", 1207, "916a838963edc8ad8652c4581aa7ba04caec9050125ec9b207442eafdfc3ff77"),
-    (DECISIONS, "document 01", 9840, "805584bcb73109ca0457dae0a58199ab97775eec748db48fc202267484d41415"),
-    (DECISIONS, "document 02", 4855, "a67268f20060992405563d5e4e514bca99fe3fdc8cddd96f3175d5c879d209d4"),
+    (RULES, "card 10", 716, "6e770c7d8cb84c1f41b1bd6ebe84f7f30a8fa4874390476a9acaf43ce10e0c72"),
+    (DECISIONS, "document 01", 9876, "7e5b8dd9ab9a82c8aac132f87c08e1a65eb704967ac3ad142625e4779c9a00f9"),
+    (DECISIONS, "document 02", 5531, "ea418f037fddc1361c19ca89bfd64666b46a60881ff150d95760cad7657fa1d6"),
 ];
 
 // The entries of DECISIONS.md that a page cites: "entry D1", "Entry D1", "entries D1 (..) and D2", "entries D1 to D2".

@@ -9,3 +9,4 @@ pub mod ReadingRows
 pub mod Reached
 pub mod DownloadRows
 pub mod RoleRows
+pub mod LastTickRows

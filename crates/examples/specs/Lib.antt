@@ -8,3 +8,4 @@ pub mod TagRows
 pub mod ReadingRows
 pub mod DownloadRows
 pub mod RoleRows
+pub mod LastTickRows
