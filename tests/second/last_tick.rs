@@ -44,7 +44,7 @@ impl LastTick {
             }
             LastTick::BetweenEdges => [
                 "between clock edges",
-                "A function was under way, and its next setpoint was not due yet: a channel sends once in each period of its clock.",
+                "A function was under way, and neither its next setpoint nor a repeat was due on the last tick.",
             ],
         }
     }

@@ -142,7 +142,7 @@ fn came(record: &[u8]) -> Came {
     }
 }
 
-/// The same alone.
+/// What `why` prints of a file.
 pub fn why(file: &[u8]) -> String {
     let Ok(records) = records(file) else { return "file 8\n".into() };
     let mut bench = Bench::new();

@@ -1,5 +1,5 @@
 //! What a test can claim to have reached; counted for the corpus summary, never printed by
-//! `run`, `trace` or `calls`.
+//! `run`, `trace`, `why` or `calls`.
 
 macro_rules! tallies {
     ($($name:ident)*) => {

@@ -1,22 +1,19 @@
 -- What a role is told of a channel's last tick: the board's own answer, or 13. Assumes nothing.
-use Prim.Native.Nat.{ℕ, _*_, _≤_}
-use mathlib.Core.Path.{_≡_, refl, sym, ap, subst, _∙_}
-use mathlib.Core.Bool.{Bool, true, false, not}
+use Prim.Native.Nat.{_*_}
+use mathlib.Core.Path.{ap, subst, _∙_}
+use mathlib.Core.Bool.{not}
 use mathlib.Core.List.{List}
 use Rattle.channel_core.specs.Answers.{lastTick}
 use Rattle.channel.specs.OneChannel as to
 use Rattle.channel.specs.OneChannel.{ChannelCall}
 use Rattle.histories.specs.LastTicks.{lastTickOver}
 use Rattle.board_state.specs.Parts.{own}
-use Rattle.board.specs.Answers.{BoardAnswer, one}
-use Rattle.board.specs.Worlds.{World}
 use Rattle.isolation.specs.Calls.{query, none, answer, worldAfter, opening}
-use Rattle.isolation.specs.Feeding.{fed}
 use Rattle.isolation.specs.Isolation.{Reports}
 use Rattle.isolation.proofs.LastTicks.{last-tick-named}
 use Rattle.isolation.proofs.Cases.{in-range}
-use Rattle.permissions.specs.Rights.{rightsAt, mayRead}
-use Rattle.access_control.specs.Guarding.{shown, refusedBy, permissionDenied}
+use Rattle.permissions.specs.Rights.{rightsAt}
+use Rattle.access_control.specs.Guarding.{shown}
 use Rattle.access_control.specs.Isolation.{guardedFed, granted, grantedTo, GuardedLastTick}
 use Rattle.access_control.proofs.Laws.{answer-denied, answer-granted}
 use Rattle.access_control.proofs.Granted.{granted-calls}

@@ -45,7 +45,8 @@ deniedRead r p (channel number offset) = not (mayReadRegister (rightsAt r number
 deniedRead r p nothing = false
 
 -- "Setpoint writes, register writes, arming, disarming and replies need the write right. Register reads, voltages, retired parts and downloads need the
--- read right", and what the last tick did (card 10: "The call needs the read right."); "Main registers, user changes and the interrupt level are the examiner's. Ticks and events are the examiner's and the candidate's"
+-- read right", and what the last tick did (card 10: "The call needs the read right."); "Main registers, user changes and the interrupt level are the
+-- examiner's. Ticks and events are the examiner's and the candidate's"
 abbrev pub denied : BoardRights → Role → Call → Bool
 denied r p (writeRegister address value) = deniedWrite r p (named address)
 denied r p (readRegister address) = deniedRead r p (named address)

@@ -1,5 +1,6 @@
 -- Document 02, card 9: "The one-channel definition takes the same seats and rights, and demand 3 now supposes the rights the same". Demand 3 by role, and
--- what stands beside it. Proofs: proofs/Isolation.antt and Shown; of what is refused Worlds, of what is granted Granted and GrantedFed; of the last tick LastTicks.
+-- what stands beside it. Proofs: proofs/Isolation.antt and Shown; of what is refused Worlds, of what is granted Granted and GrantedFed; of the last tick
+-- LastTicks.
 use Prim.Native.Nat.{ℕ, _*_, _≤_}
 use mathlib.Core.Path.{_≡_}
 use mathlib.Core.Bool.{true, false, not}

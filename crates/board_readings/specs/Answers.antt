@@ -1,5 +1,5 @@
--- Document 02, cards 7 and 10, and document 01, 'Code places and language forms': "For an answer that is an enum, a definition gives this paper's number and values
--- for each of its cases, and the promises use that definition."
+-- Document 02, cards 7 and 10, and document 01, 'Code places and language forms': "For an answer that is an enum, a definition gives this paper's number
+-- and values for each of its cases, and the promises use that definition."
 use Rattle.refusal.specs.Refusals.{numberOf}
 use Rattle.channel_core.specs.Answers.{Answer}
 use Rattle.channel_core.specs.Answers as ans

@@ -29,7 +29,7 @@ pub struct Channel {
     pub readbacks: Readbacks,
     pub adc: AdcWords,
     pub download: Download,
-    // Of its last tick.
+    // What its last tick did.
     pub outcome: TickOutcome,
     pub commands: CommandFrames,
 }

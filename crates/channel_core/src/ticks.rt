@@ -39,7 +39,7 @@ impl Channel {
         word_at(setpoints, at)
     }
 
-    // The same, with what its last tick did.
+    // With what its last tick did. Made anew: a field that is an enum is not stored to.
     pub fn with_outcome(self, outcome: TickOutcome) -> Channel
         ensures { λ r. ⌜ r ≡ withOutcome self outcome ⌝ }
     {

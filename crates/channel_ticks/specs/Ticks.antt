@@ -60,8 +60,8 @@ abbrev pub conditionAfter : Transmission → ℕ → ℕ
 conditionAfter transmission.Nothing k = k
 conditionAfter (transmission.Word word j) k = cond (eqb j 0) k j
 
--- a channel after ticks with no command frame due, but for what the last of them did: the condition of their words, their sequencer, whose count of missing readbacks has only what they
--- found, and the number of their frames
+-- a channel after ticks with no command frame due, but for what the last of them did: the condition of their words, their sequencer, whose count of
+-- missing readbacks has only what they found, and the number of their frames
 abbrev pub afterTicks : Channel → ℕ → Sequencer → ℕ → Channel
 afterTicks c condition q frames =
     withCommands

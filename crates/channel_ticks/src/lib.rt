@@ -38,7 +38,7 @@ struct Begun {
 
 // What the rest of the ticks come to so far: the condition of their words (0: none; a word with one is repeated, so there is one at most), the sequencer,
 // whose count of missing readbacks is only what they find, and the number of their frames. What they latch follows from that, and so does whether replies
-// still go to E4-FA: the status here would slow the loop down. And what the last tick did of those that were not skipped.
+// still go to E4-FA: the status here would slow the loop down. `outcome` is what the last tick did that was not skipped.
 struct Progress {
     pub condition: u8,
     pub sequencer: Sequencer,

@@ -14,6 +14,7 @@ use Rattle.sequencer.specs.declared.Stage.the-variants as stage
 use Rattle.sequencer.specs.declared.Sequencer.{Sequencer}
 use Rattle.sequencer.specs.declared.Transmission.{Transmission}
 use Rattle.sequencer.specs.declared.Transmission.the-variants as transmission
+use Rattle.sequencer.specs.declared.Ticked.{Ticked}
 use Rattle.sequencer.specs.Playing.{ticked, tickedAt, advancing, repeating, resuming, sentNext, sentAs, repeated, quiet, withLeft, withResume, isIdle, isStarting}
 use Rattle.tick_outcome.specs.declared.TickOutcome.{TickOutcome}
 use Rattle.tick_outcome.specs.declared.TickOutcome.the-variants as tick
@@ -50,24 +51,22 @@ QuietAt (stage.Paused k) s = 2 ≤ s .left
 QuietAt stage.Resuming s = (2 ≤ s .resume) × (10 < s .resume → 2 ≤ s .left)
 QuietAt stage.Ended s = 2 ≤ s .left
 
-module _ (s : Sequencer) (due n p id : ℕ) where
-  advancing-quiet : isSetpoint (advancing s due n p id .transmission) ≡ false → 2 ≤ s .left
-  unfolding advancing sentNext sentAs
-  advancing-quiet = go (leb (s .left) 1) refl
-    where
-      go : (b : Bool) → leb (s .left) 1 ≡ b
-          → isSetpoint (cond b (sentNext s due n p id) (quiet (withLeft s (s .left - 1))) .transmission) ≡ false → 2 ≤ s .left
-      go true e h = clash (sym h)
-      go false e h = omega (arith, leb-false (s .left) 1 e)
+-- a countdown that sends at 1
+countdown-quiet : (s : Sequencer) (t : Ticked) → isSetpoint (t .transmission) ≡ true
+    → isSetpoint (cond (leb (s .left) 1) t (quiet (withLeft s (s .left - 1))) .transmission) ≡ false → 2 ≤ s .left
+countdown-quiet s t sends = go (leb (s .left) 1) refl
+  where
+    go : (b : Bool) → leb (s .left) 1 ≡ b → isSetpoint (cond b t (quiet (withLeft s (s .left - 1))) .transmission) ≡ false → 2 ≤ s .left
+    go true e h = clash (sym h ∙ sends)
+    go false e h = omega (arith, leb-false (s .left) 1 e)
 
-  repeating-quiet : isSetpoint (repeating s p id .transmission) ≡ false → 2 ≤ s .left
-  unfolding repeating repeated
-  repeating-quiet = go (leb (s .left) 1) refl
-    where
-      go : (b : Bool) → leb (s .left) 1 ≡ b
-          → isSetpoint (cond b (repeated s p id) (quiet (withLeft s (s .left - 1))) .transmission) ≡ false → 2 ≤ s .left
-      go true e h = clash (sym h)
-      go false e h = omega (arith, leb-false (s .left) 1 e)
+advancing-quiet : (s : Sequencer) (due n p id : ℕ) → isSetpoint (advancing s due n p id .transmission) ≡ false → 2 ≤ s .left
+unfolding advancing sentNext sentAs
+advancing-quiet s due n p id = countdown-quiet s (sentNext s due n p id) refl
+
+repeating-quiet : (s : Sequencer) (p id : ℕ) → isSetpoint (repeating s p id .transmission) ≡ false → 2 ≤ s .left
+unfolding repeating repeated
+repeating-quiet s p id = countdown-quiet s (repeated s p id) refl
 
 module _ (s : Sequencer) (due n p id : ℕ) where
   resuming-quiet : isSetpoint (resuming s due n p id .transmission) ≡ false → (2 ≤ s .resume) × (10 < s .resume → 2 ≤ s .left)
@@ -82,15 +81,15 @@ module _ (s : Sequencer) (due n p id : ℕ) where
           → (2 ≤ s .resume) × (10 < s .resume → 2 ≤ s .left)
       go true few e f h = clash (sym h)
       go false true e f h = (omega (arith, leb-false (s .resume) 1 e), λ g. absurd (omega (arith, leb-true (s .resume) 10 f, g)))
-      go false false e f h = (omega (arith, leb-false (s .resume) 1 e), λ g. repeating-quiet lowered due n p id h)
+      go false false e f h = (omega (arith, leb-false (s .resume) 1 e), λ g. repeating-quiet lowered p id h)
 
   quiet-at : (x : Stage) → isSetpoint (tickedAt x s due n p id .transmission) ≡ false → QuietAt x s
   quiet-at stage.Idle h = tt
   quiet-at stage.Starting h = advancing-quiet s due n p id h
   quiet-at stage.Running h = advancing-quiet s due n p id h
-  quiet-at (stage.Paused k) h = repeating-quiet s due n p id h
+  quiet-at (stage.Paused k) h = repeating-quiet s p id h
   quiet-at stage.Resuming h = resuming-quiet h
-  quiet-at stage.Ended h = repeating-quiet s due n p id h
+  quiet-at stage.Ended h = repeating-quiet s p id h
 
 line-quiet : (id : ℕ) (f : CommandFrames) (x : Transmission) → isFrame (tickLine id f x) ≡ false → isSetpoint x ≡ false
 line-quiet id f transmission.Nothing h = refl
@@ -102,13 +101,13 @@ tick-quiet c s n user h =
     quiet-at (c .sequencer) (dueOf c s n user) n (periodOf (c .registers .clock)) (c .registers .id) (c .sequencer .stage)
     (line-quiet (c .registers .id) (c .commands) (playedOf c s n user .transmission) h)
 
--- ---- The first condition that condition
+-- ---- The first condition that held
 
 module _ (e : Entry) where
   abbrev before : Sequencer
   before = e .before .channel .sequencer
 
-  -- none of the first p condition, told one by one
+  -- none of the first p held, told one by one
   none-below : (p : ℕ) → p ≤ 7
       → (1 < p → isFrame (e .answer) ≡ false)
       → (2 < p → isDisarmed before ≡ false)

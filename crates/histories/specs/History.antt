@@ -2,8 +2,8 @@
 -- answered. Laws over histories are stated with these.
 -- Document 02, card 1: which of the frames are command frames, and which replies go to E4–FA, told by calls and answers. Card 2: the Frame ID that a
 -- frame carries, read from the frame, and which register a call reads. Card 6: what a call makes of tags (specs/TagChanges). Card 7: a reply as an
--- ADC word, by its own frame. Card 8: which calls open a download. Card 10: which are ticks. Of the state before a call only the code of the Group End event (which
--- `TagsTold`, specs/Tags, has told by writes), the current user, and what a stored word says of the last send are looked at.
+-- ADC word, by its own frame. Card 8: which calls open a download. Card 10: which are ticks. Of the state before a call only the code of the Group End
+-- event (which `TagsTold`, specs/Tags, has told by writes), the current user, and what a stored word says of the last send are looked at.
 use Prim.Native.Nat.{ℕ, _+_}
 use mathlib.Core.Bool.{Bool, true, false, cond, not, _&&_, _||_}
 use mathlib.Core.List.{List, [], _∷_}

@@ -59,7 +59,8 @@ inStartGap s = isStarting (s .stage) && not (outside 2 10 (s .left))
 abbrev pub inResumeGap : Sequencer → Bool
 inResumeGap s = isResuming (s .stage) && not (outside 2 10 (s .resume))
 
--- the clock's edges bring the next send, a new word or a repeat: so once the first word has left, and "A resume delay between repeats counts as between edges."
+-- the clock runs: once the first word has left, through a pause and after the last word, and "A resume delay between repeats counts as between edges.",
+-- whether or not a repeat falls into it
 abbrev pub isClocked : Stage → (resume : ℕ) → Bool
 isClocked stage.Idle resume = false
 isClocked stage.Starting resume = false
@@ -68,7 +69,7 @@ isClocked (stage.Paused k) resume = true
 isClocked stage.Resuming resume = ltb 10 resume
 isClocked stage.Ended resume = true
 
--- "between clock edges": the next edge does not come with this tick
+-- "between clock edges": none of its edges comes with this tick
 abbrev pub isBetweenEdges : Sequencer → Bool
 isBetweenEdges s = isClocked (s .stage) (s .resume) && leb 2 (s .left)
 

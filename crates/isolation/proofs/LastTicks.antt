@@ -2,7 +2,7 @@
 use Prim.Native.Nat.{ℕ, _*_}
 use mathlib.Core.Path.{_≡_, refl, sym, ap, subst, _∙_}
 use mathlib.Core.Logic.{inr}
-use mathlib.Core.List.{List, _∷_, _++_}
+use mathlib.Core.List.{_∷_, _++_}
 use lib.ListN.{length}
 use Rattle.channel_core.specs.Answers.{Answer}
 use Rattle.channel.specs.OneChannel.{OneChannel, response, transition, transitions}
@@ -15,7 +15,7 @@ use Rattle.board_state.specs.Parts.{own}
 use Rattle.board.specs.Answers.{one}
 use Rattle.board.specs.Worlds.{World}
 use Rattle.isolation.specs.Calls.{tick, words, none, answer, step, worldAfter, opening}
-use Rattle.isolation.specs.Feeding.{answerFor, fed, view}
+use Rattle.isolation.specs.Feeding.{fed, view}
 use Rattle.isolation.specs.Isolation.{oneChannelAt, Reports, LastTickNamed, tickIn, seenBy, LastTickSeen}
 use Rattle.isolation.proofs.Parts.{Number}
 use Rattle.isolation.proofs.Observing.{observe-query, observe-tick}

@@ -126,7 +126,6 @@ module _ (o : OneChannel) (s : Sequencer) (d : ℕ) (e : o .channel .sequencer �
   -- the tick k, with so many left before it
   start-silent : (k : ℕ) → 1 ≤ k → k < d + 10 → (few : Bool) → leb (d + 10 - (k - 1)) 10 ≡ few → Reports o k (reasonOf (cond few tick.StartGap tick.StartDelay))
   start-silent k some less few h =
-      let q = o .channel .sequencer in
       let c = counted o (ap advances at-start) (k - 1) (omega (arith, left-is)) in
       reports-silent o k (cond few tick.StartGap tick.StartDelay) some none (setpoint .silent k some less)
       (silence-at (played o (k - 1)) stage.Starting (armed-kept o (k - 1) ∙ armed) (ap (λ (t : Sequencer). t .stage) c ∙ at-start)
@@ -201,7 +200,6 @@ resume-by-command-reports o value only on at some armed none =
 pub running-reports : the.RunningReports
 running-reports o at armed none = (
   λ k some less.
-      let q = o .channel .sequencer in
       let c = counted o (ap advances at) (k - 1) (omega arith) in
       reports-silent o k tick.BetweenEdges some none (countdown o (ap advances at) (omega arith) .silent k some less)
       (silence-at (played o (k - 1)) stage.Running (armed-kept o (k - 1) ∙ armed) (ap (λ (t : Sequencer). t .stage) c ∙ at)),

@@ -43,8 +43,9 @@ untagged o = withChannel o (withSequencer (o .channel) (seq.untagged (o .channel
 
 -- ---- A. Ticks
 
--- k ticks change the status, the sequencer, what the last tick did and the command frames alone; the sequencer is ticked k times with the words of the current user's active
--- buffer; tick k + 1 answers the frame of the word that it transmits, and else a command frame on the next tick, if one is due, and none
+-- k ticks change the status, the sequencer, what the last tick did and the command frames alone; the sequencer is ticked k times with the words of the
+-- current user's active buffer; tick k + 1 answers the frame of the word that it transmits, and else a command frame on the next tick, if one is due,
+-- and none
 abbrev pub Bridge : Type 0
 Bridge =
     (o : OneChannel) (k : ℕ)

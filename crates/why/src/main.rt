@@ -1,11 +1,13 @@
 // Reads a run file from standard input, runs its records, and says of each channel what its last tick did. One byte past 65,536 is enough to know a longer file.
+use board_readings::TickReport;
 use board_state::Board;
 use libc::STDIN_FILENO;
 use output::Block;
 use records::RecordsLength;
 use tick_outcome::TickOutcome;
 
-// The names of document 02, card 10, each with a sentence for who ran the file.
+// Below: each name of document 02, card 10, with a sentence for whoever wrote the file.
+
 fn no_tick(block: &mut Block) {
     output::text(
         block,
@@ -58,7 +60,7 @@ fn resume_gap(block: &mut Block) {
 fn between_edges(block: &mut Block) {
     output::text(
         block,
-        b"between clock edges. A function was under way, and its next setpoint was not due yet: a channel sends once in each period of its clock.",
+        b"between clock edges. A function was under way, and neither its next setpoint nor a repeat was due on the last tick.",
     );
 }
 
@@ -76,12 +78,15 @@ fn explain(block: &mut Block, outcome: TickOutcome) {
 }
 
 // One channel's line.
-fn line(block: &mut Block, b: Board, number: u8) {
-    let channel = b.channel(number);
-    let outcome = channel.outcome;
+fn line(block: &mut Block, b: Board, number: u32) {
     output::numbered(block, b"channel ", number as u64);
     output::text(block, b": ");
-    explain(block, outcome);
+    let report = board_readings::last_tick(b, number);
+    match report {
+        TickReport::Outcome(outcome) => explain(block, outcome),
+        // Of no channel that is asked.
+        TickReport::Refused(_) => {}
+    }
     output::end_line(block);
 }
 

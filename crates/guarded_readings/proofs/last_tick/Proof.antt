@@ -34,7 +34,7 @@ module _ (c : tie.After-check-permission) where
   abbrev call : Call
   call = query (given .args .number) lastTick
 
-  decides : Decides (given .args .g) (given .args .role) call (none) (c .check-permission .result)
+  decides : Decides (given .args .g) (given .args .role) call none (c .check-permission .result)
   unfolding guardRefusal
   decides = simp (c .check-permission .ensures, c .before .may-read .ensures, c .before .before .check-channel .ensures)
 
@@ -44,12 +44,12 @@ returns c =
     let w = c .last-tick .ensures in
     let z = c .before in
     let k = c .before .before .before in
-    let a = given k .args in ap one (w) ∙ allowed-answer (a .g) (a .role) (call k) (none) (decides k) (z .enum-told .given .1)
+    let a = given k .args in ap one w ∙ allowed-answer (a .g) (a .role) (call k) none (decides k) (z .enum-told .given .1)
 
 returns-2 : tie.Need-returns-2
 returns-2 c =
     let k = c .before .before .before in
-    let a = given k .args in refused-answer (a .g) (a .role) (call k) (none) (decides k) _ (c .before .verdict .given .1)
+    let a = given k .args in refused-answer (a .g) (a .role) (call k) none (decides k) _ (c .before .verdict .given .1)
 
 pub last-tick-spec : {M : Type 1} → statement M
 last-tick-spec =

@@ -38,7 +38,7 @@ fn is_kept(act: fn(&mut Small)) -> bool {
         let mut t = posed(*told);
         let before = t.last(1);
         act(&mut t);
-        before == *told && t.last(1) == *told && t.last(1) == *told
+        before == *told && t.last(1) == *told
     })
 }
 
