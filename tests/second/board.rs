@@ -14,7 +14,7 @@ mod record;
 mod refused;
 mod replies;
 mod rows;
-mod sending;
+pub mod sending;
 mod setpoint;
 mod tag;
 mod tick;

@@ -13,7 +13,7 @@ pub struct Sending {
     pub is_short: bool,
 }
 
-#[derive(Clone, Copy)]
+#[derive(Clone, Copy, PartialEq, Eq, PartialOrd, Ord, Debug)]
 pub enum Kind {
     FirstWord,
     NextWord,

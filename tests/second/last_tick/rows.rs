@@ -1,6 +1,7 @@
 //! What the corpus has to reach of last ticks: each row is counted at an answer that would be another if it were otherwise.
 
 use super::{LastTick, ALL};
+use crate::board::sending::Kind;
 use crate::role::Role;
 use std::collections::BTreeMap;
 
@@ -27,8 +28,8 @@ pub enum Row {
     /// A gap's tick on which a repeat would be due.
     RepeatDropped,
     /// A tick that sends a setpoint, and one that does not though the function runs, by what is sent or due next.
-    Sends(Send),
-    Waits(Send),
+    Sends(Kind),
+    Waits(Kind),
     /// By the period.
     Edge(u64, Edge),
     /// A command frame by these bits of FC, and what would be told without it.
@@ -124,16 +125,6 @@ pub enum To {
     Running,
     /// One that was idled by the Group End of the same event or command.
     Ended,
-}
-
-#[derive(Clone, Copy, PartialEq, Eq, PartialOrd, Ord, Debug)]
-pub enum Send {
-    FirstWord,
-    NextWord,
-    WordAfterResume,
-    RepeatOfPause,
-    RepeatInResumeDelay,
-    RepeatOfLast,
 }
 
 /// The first tick after a send, the last before the next, and that one.
@@ -236,8 +227,8 @@ fn of_delays() -> Vec<Row> {
 }
 
 fn of_sends() -> Vec<Row> {
-    let due = [Send::NextWord, Send::RepeatOfPause, Send::RepeatInResumeDelay, Send::RepeatOfLast];
-    let mut rows = vec![Row::Sends(Send::FirstWord), Row::Sends(Send::WordAfterResume)];
+    let due = [Kind::NextWord, Kind::RepeatOfPause, Kind::RepeatInResumeDelay, Kind::RepeatOfLast];
+    let mut rows = vec![Row::Sends(Kind::FirstWord), Row::Sends(Kind::WordAfterResume)];
     rows.extend(due.iter().flat_map(|send| [Row::Sends(*send), Row::Waits(*send)]));
     for period in [10, 100, 1_000, 10_000] {
         rows.extend([Edge::First, Edge::Last, Edge::Due].map(|edge| Row::Edge(period, edge)));

@@ -3,7 +3,7 @@
 use crate::board::sending::Kind;
 use crate::board::Board;
 use crate::channel::{Function, Loaded};
-use crate::last_tick::rows::{Delay, Edge, Length, Place, Row, Send};
+use crate::last_tick::rows::{Delay, Edge, Length, Place, Row};
 use crate::last_tick::LastTick;
 
 /// The tally's part of a board.
@@ -27,26 +27,15 @@ struct Tick {
     edge: Option<(u64, u64)>,
     /// A repeat would be due.
     is_due: bool,
-    sends: Option<Send>,
+    sends: Option<Kind>,
     /// The next send.
-    next: Option<Send>,
+    next: Option<Kind>,
     /// The bits of FC by which a command frame is sent.
     command: u16,
     is_after_command: bool,
     is_hidden: bool,
     /// Its number in the record.
     number: u64,
-}
-
-fn send(kind: Kind) -> Send {
-    match kind {
-        Kind::FirstWord => Send::FirstWord,
-        Kind::NextWord => Send::NextWord,
-        Kind::WordAfterResume => Send::WordAfterResume,
-        Kind::RepeatOfPause => Send::RepeatOfPause,
-        Kind::RepeatInResumeDelay => Send::RepeatInResumeDelay,
-        Kind::RepeatOfLast => Send::RepeatOfLast,
-    }
 }
 
 impl Board {
@@ -67,7 +56,7 @@ impl Board {
             edge: f.and_then(|f| f.last_send).map(|(at, period)| (self.now - at, period)),
             is_due: f.is_some_and(|f| f.due == self.now),
             sends: None,
-            next: f.filter(|_| quiet == LastTick::BetweenEdges).map(|_| send(self.sending(c, false).kind)),
+            next: f.filter(|_| quiet == LastTick::BetweenEdges).map(|_| self.sending(c, false).kind),
             command: 0,
             is_after_command: self.ticks.last[c].is_some_and(|tick| tick.command > 0),
             is_hidden: self.tally.is_hidden,
@@ -77,7 +66,7 @@ impl Board {
 
     /// It sends a setpoint.
     pub(in crate::board) fn watch_tick_send(&mut self, c: usize, kind: Kind) {
-        self.ticks.last[c].iter_mut().for_each(|tick| tick.sends = Some(send(kind)));
+        self.ticks.last[c].iter_mut().for_each(|tick| tick.sends = Some(kind));
     }
 
     /// It sends a command frame.
