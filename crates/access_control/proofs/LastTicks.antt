@@ -3,12 +3,11 @@ use Prim.Native.Nat.{_*_}
 use mathlib.Core.Path.{ap, subst, _∙_}
 use mathlib.Core.Bool.{not}
 use mathlib.Core.List.{List}
-use Rattle.channel_core.specs.Answers.{lastTick}
 use Rattle.channel.specs.OneChannel as to
 use Rattle.channel.specs.OneChannel.{ChannelCall}
 use Rattle.histories.specs.LastTicks.{lastTickOver}
 use Rattle.board_state.specs.Parts.{own}
-use Rattle.isolation.specs.Calls.{query, none, answer, worldAfter, opening}
+use Rattle.isolation.specs.Calls.{query, none, worldAfter, opening}
 use Rattle.isolation.specs.Isolation.{Reports}
 use Rattle.isolation.proofs.LastTicks.{last-tick-named}
 use Rattle.isolation.proofs.Cases.{in-range}

@@ -14,7 +14,7 @@ use Rattle.histories.proofs.LastTicks.{last-tick-named as named-alone, last-tic
 use Rattle.board_state.specs.Parts.{own}
 use Rattle.board.specs.Answers.{one}
 use Rattle.board.specs.Worlds.{World}
-use Rattle.isolation.specs.Calls.{tick, words, none, answer, step, worldAfter, opening}
+use Rattle.isolation.specs.Calls.{words, none, answer, step, worldAfter, opening}
 use Rattle.isolation.specs.Feeding.{fed, view}
 use Rattle.isolation.specs.Isolation.{oneChannelAt, Reports, LastTickNamed, tickIn, seenBy, LastTickSeen}
 use Rattle.isolation.proofs.Parts.{Number}
