@@ -14,14 +14,14 @@ use refusal::{Refusal, Verdict};
 use register_map::Access;
 
 // No call changes the rights.
-#[derive(Drop)]
+#[derive(Clone, Copy)]
 pub struct GuardedBoard {
     pub board: Board,
     pub rights: BoardRights,
 }
 
 // The board after a call, and its answer.
-#[derive(Drop)]
+#[derive(Clone, Copy)]
 pub struct Written {
     pub board: GuardedBoard,
     pub outcome: Outcome,

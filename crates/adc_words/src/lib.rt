@@ -1,16 +1,18 @@
 // The ADC words of a send, its third to sixth replies. A send need not clear those of the send before: they count only as far as replies have come.
+#![tactic(auto)]
+
 ghost use Rattle.std.specs.Prelude.{◌≡◌, cond};
 ghost use Rattle.adc_words.specs.Positions.{no_reply, none_arrived, with_reply, arrived};
 
 // A reply: stored or not, its CRC right or not, and its data.
-#[derive(Drop)]
+#[derive(Clone, Copy)]
 pub struct AdcWord {
     pub stored: bool,
     pub right: bool,
     pub data: u16,
 }
 
-#[derive(Drop)]
+#[derive(Clone, Copy)]
 pub struct AdcWords {
     pub third: AdcWord,
     pub fourth: AdcWord,
@@ -50,6 +52,7 @@ impl AdcWords {
     }
 
     // With one more reply, stored or not, after `before` others.
+    #[tactic(auto, unfolding(crate::specs::Positions::with_reply))]
     pub fn with_reply(self, before: u8, word: AdcWord) -> AdcWords
         ensures { result ≡ with_reply self before word }
     {
@@ -66,6 +69,7 @@ impl AdcWords {
     }
 
     // Those of a send that got so many replies: what stands in the place of one that has not come is of an earlier send, if anything.
+    #[tactic(auto, unfolding(crate::specs::Positions::arrived))]
     pub fn arrived(self, replies: u8) -> AdcWords
         ensures { result ≡ arrived self replies }
     {

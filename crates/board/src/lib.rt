@@ -11,13 +11,13 @@ use channel_core::{Line, Outcome};
 use refusal::Refusal;
 
 // The answer of a tick: each channel's frame or none.
-#[derive(Drop)]
+#[derive(Clone, Copy)]
 pub enum Frames {
     Each(Line, Line, Line, Line),
     Refused(Refusal),
 }
 
-#[derive(Drop)]
+#[derive(Clone, Copy)]
 pub struct Ticked {
     pub board: Board,
     pub frames: Frames,

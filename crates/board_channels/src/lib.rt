@@ -13,7 +13,7 @@ use channel_replies::Receipt;
 use refusal::{Refusal, Verdict};
 
 // The board after a reply, and what became of it.
-#[derive(Drop)]
+#[derive(Clone, Copy)]
 pub struct Received {
     pub board: Board,
     pub receipt: Receipt,

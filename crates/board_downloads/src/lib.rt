@@ -9,7 +9,7 @@ use channel::PartLength;
 use refusal::{Refusal, Verdict};
 
 // The board after a download was opened, and the count that it remembers, or the refusal.
-#[derive(Drop)]
+#[derive(Clone, Copy)]
 pub struct Opened {
     pub board: Board,
     pub length: PartLength,

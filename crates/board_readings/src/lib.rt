@@ -9,7 +9,7 @@ use refusal::Refusal;
 use tick_outcome::TickOutcome;
 
 // The answer of the call.
-#[derive(Drop)]
+#[derive(Clone, Copy)]
 pub enum Measurement {
     Readings(Readings),
     Refused(Refusal),
@@ -27,7 +27,7 @@ pub fn last_readings(b: Board, number: u32) -> Measurement
 }
 
 // The answer of the call below.
-#[derive(Drop)]
+#[derive(Clone, Copy)]
 pub enum TickReport {
     Outcome(TickOutcome),
     Refused(Refusal),

@@ -15,7 +15,7 @@ use channel_core::Outcome;
 use channel_registers::ReadOutcome;
 use refusal::{Refusal, Verdict};
 
-#[derive(Drop)]
+#[derive(Clone, Copy)]
 pub struct Read {
     pub board: Board,
     pub outcome: ReadOutcome,

@@ -9,7 +9,7 @@ use channel_core::{Channel, Outcome};
 use status::weigh;
 
 // Main's registers: Level, Vector, Enable, and in each status copy whether an event came.
-#[derive(Drop)]
+#[derive(Clone, Copy)]
 pub struct Main {
     pub level: u8,
     pub vector: u16,
@@ -18,7 +18,7 @@ pub struct Main {
     pub polling: bool,
 }
 
-#[derive(Drop)]
+#[derive(Clone, Copy)]
 pub struct Board {
     pub n: u32,
     pub m: u32,
@@ -28,7 +28,7 @@ pub struct Board {
 }
 
 // The board after a call, and its answer.
-#[derive(Drop)]
+#[derive(Clone, Copy)]
 pub struct Written {
     pub board: Board,
     pub outcome: Outcome,

@@ -12,7 +12,7 @@ use channel_ticks::quiet;
 use channel_ticks::quiet::least;
 
 // The board after ticks in a row, and what they answered: so many were refused, and so many frames of channels 1 to 4.
-#[derive(Drop)]
+#[derive(Clone, Copy)]
 pub struct Advanced {
     pub board: Board,
     pub refused: u32,

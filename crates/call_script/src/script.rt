@@ -9,13 +9,13 @@ const SIZE: usize = 16;
 const MOST: usize = 65536;
 
 // What a script's length says.
-#[derive(Drop)]
+#[derive(Clone, Copy)]
 pub enum Records {
     Count(u16),
     Bad,
 }
 
-#[derive(Drop)]
+#[derive(Clone, Copy)]
 pub struct Header {
     pub n: u32,
     pub m: u32,
@@ -23,7 +23,7 @@ pub struct Header {
     pub mask: u32,
 }
 
-#[derive(Drop)]
+#[derive(Clone, Copy)]
 pub struct Record {
     pub kind: u8,
     pub channel: u8,

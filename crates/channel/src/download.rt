@@ -10,7 +10,7 @@ use downloads::Download;
 use refusal::Verdict;
 
 // A channel after its download was opened, and the count that it remembers.
-#[derive(Drop)]
+#[derive(Clone, Copy)]
 pub struct Opened {
     pub channel: Channel,
     pub count: u32,

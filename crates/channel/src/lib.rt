@@ -13,14 +13,14 @@ use refusal::{Refusal, Verdict};
 use registers::Registers;
 
 // The length of a part, answered by the call beside the one that gives its words; or the count of a download as it is opened.
-#[derive(Drop)]
+#[derive(Clone, Copy)]
 pub enum PartLength {
     Words(usize),
     Refused(Refusal),
 }
 
 // A channel after its bit in a Main status is read, and the bit.
-#[derive(Drop)]
+#[derive(Clone, Copy)]
 pub struct MainRead {
     pub channel: Channel,
     pub bit: bool,

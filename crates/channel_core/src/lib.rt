@@ -19,7 +19,7 @@ use sequencer::{LastSend, Sequencer, Transmission};
 use status::Status;
 use tick_outcome::TickOutcome;
 
-#[derive(Drop)]
+#[derive(Clone, Copy)]
 pub struct Channel {
     pub status: Status,
     pub registers: Registers,
@@ -33,20 +33,20 @@ pub struct Channel {
 }
 
 // The answer of a tick: a frame, or none.
-#[derive(Drop)]
+#[derive(Clone, Copy)]
 pub enum Line {
     Silent,
     Frame(u64),
 }
 
 // The answer of a call that has nothing to tell but that it was done.
-#[derive(Drop)]
+#[derive(Clone, Copy)]
 pub enum Outcome {
     Done,
     Refused(Refusal),
 }
 
-#[derive(Drop)]
+#[derive(Clone, Copy)]
 pub struct Ticked {
     pub channel: Channel,
     pub line: Line,

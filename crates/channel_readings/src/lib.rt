@@ -6,7 +6,7 @@ ghost use Rattle.channel_readings.specs.Measuring.{measured, readings_answer};
 use adc_words::AdcWord;
 use channel_core::Channel;
 
-#[derive(Drop)]
+#[derive(Clone, Copy)]
 pub enum Reading {
     Volts(f64),
     Lost,
@@ -15,7 +15,7 @@ pub enum Reading {
 }
 
 // The readings of the third to sixth replies.
-#[derive(Drop)]
+#[derive(Clone, Copy)]
 pub struct Readings {
     pub third: Reading,
     pub fourth: Reading,

@@ -10,19 +10,19 @@ use channel_core::{Channel, Outcome};
 use refusal::{Refusal, Verdict};
 
 // The answer of a register read.
-#[derive(Drop)]
+#[derive(Clone, Copy)]
 pub enum ReadOutcome {
     Value(u16),
     Refused(Refusal),
 }
 
-#[derive(Drop)]
+#[derive(Clone, Copy)]
 pub struct Written {
     pub channel: Channel,
     pub outcome: Outcome,
 }
 
-#[derive(Drop)]
+#[derive(Clone, Copy)]
 pub struct Read {
     pub channel: Channel,
     pub outcome: ReadOutcome,

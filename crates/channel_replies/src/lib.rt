@@ -13,7 +13,7 @@ use refusal::Refusal;
 use status::Status;
 
 // The answer of a reply.
-#[derive(Drop)]
+#[derive(Clone, Copy)]
 pub enum Receipt {
     Kept,
     Lost,
@@ -22,7 +22,7 @@ pub enum Receipt {
     Refused(Refusal),
 }
 
-#[derive(Drop)]
+#[derive(Clone, Copy)]
 pub struct Received {
     pub channel: Channel,
     pub receipt: Receipt,

@@ -18,14 +18,14 @@ use sequencer::{Sequencer, Transmission};
 use tick_outcome::TickOutcome;
 
 // A channel after ticks in a row, and how many of them answered a frame.
-#[derive(Drop)]
+#[derive(Clone, Copy)]
 pub struct Advanced {
     pub channel: Channel,
     pub frames: u32,
 }
 
 // A channel of whose next tick the command frame's share is done, and the frames that it sent: none or one.
-#[derive(Drop)]
+#[derive(Clone, Copy)]
 struct Begun {
     pub channel: Channel,
     pub frames: u32,
@@ -34,7 +34,7 @@ struct Begun {
 // What the rest of the ticks come to so far: the condition of their words (0: none; a word with one is repeated, so there is one at most), the sequencer,
 // whose count of missing readbacks is only what they find, and the number of their frames. What they latch follows from that, and so does whether replies
 // still go to E4-FA: the status here would slow the loop down. `outcome` is what the last tick did that was not skipped.
-#[derive(Drop)]
+#[derive(Clone, Copy)]
 struct Progress {
     pub condition: u8,
     pub sequencer: Sequencer,

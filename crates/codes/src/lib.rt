@@ -1,4 +1,6 @@
 // The signed code that 16 bits of data stand for, and its voltage.
+#![tactic(auto)]
+
 ghost use Rattle.std.specs.Prelude.{◌≡◌};
 ghost use Rattle.codes.specs.Codes.{code_of};
 ghost use Rattle.codes.specs.Voltage.{voltage_of};
@@ -14,6 +16,7 @@ pub fn code(word: u16) -> i32
 }
 
 // Exactly the code × 10 / 32,768: no step rounds.
+#[tactic(auto, unfolding(crate::specs::Voltage::voltage_of))]
 pub fn volts(word: u16) -> f64
     ensures { result ≡ voltage_of word }
 {

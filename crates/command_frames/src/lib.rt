@@ -5,7 +5,7 @@ ghost use Rattle.command_frames.specs.Commanding.{opened, with_waiting, with_rec
 use status::weigh;
 
 // What a command frame waits for.
-#[derive(Drop)]
+#[derive(Clone, Copy)]
 pub enum Waiting {
     // None waits.
     Nothing,
@@ -13,7 +13,7 @@ pub enum Waiting {
     GroupEnd,
 }
 
-#[derive(Drop)]
+#[derive(Clone, Copy)]
 pub struct CommandFrames {
     // E0: auxiliary bits in the high byte, the Frame ID in the low one
     pub header: u16,

@@ -1,11 +1,13 @@
 // A download: the count that it remembers of a retired part, and its portions.
+#![tactic(auto)]
+
 ghost use Rattle.std.specs.Prelude.{◌≡◌};
 ghost use Rattle.refusal.specs.Refusals.{verdict_number};
 ghost use Rattle.downloads.specs.Portions.{no_download, download_of, portion_refusal, portion_of};
 
 use refusal::{Refusal, Verdict};
 
-#[derive(Drop)]
+#[derive(Clone, Copy)]
 pub struct Download {
     pub opened: bool,
     // How many words it has.

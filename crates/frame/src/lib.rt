@@ -8,7 +8,7 @@ ghost use Rattle.frame.specs.Frames.{crc_for, encoded, read, reading_of, crc_rig
 use remainder_table::REMAINDERS;
 
 // What a number is read as.
-#[derive(Drop)]
+#[derive(Clone, Copy)]
 pub enum Decoded {
     // bad framing: 2^43 or more, start bit 1, or stop bits not 11
     FramingError,

@@ -16,13 +16,13 @@ use permissions::{BoardRights, Role};
 use refusal::{Refusal, Verdict};
 
 // The board after a tick, and the frames that the role is shown.
-#[derive(Drop)]
+#[derive(Clone, Copy)]
 pub struct Ticked {
     pub board: GuardedBoard,
     pub frames: Frames,
 }
 
-#[derive(Drop)]
+#[derive(Clone, Copy)]
 pub enum InterruptLevel {
     Level(u8),
     Refused(Refusal),

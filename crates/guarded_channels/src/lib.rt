@@ -17,7 +17,7 @@ use permissions::{BoardRights, Role};
 use refusal::Verdict;
 
 // The board after a reply, and what became of it.
-#[derive(Drop)]
+#[derive(Clone, Copy)]
 pub struct Received {
     pub board: GuardedBoard,
     pub receipt: Receipt,

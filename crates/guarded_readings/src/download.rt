@@ -12,7 +12,7 @@ use permissions::Role;
 use refusal::Verdict;
 
 // The board after a download was opened, and the count that it remembers, or the refusal.
-#[derive(Drop)]
+#[derive(Clone, Copy)]
 pub struct Opened {
     pub board: GuardedBoard,
     pub length: PartLength,

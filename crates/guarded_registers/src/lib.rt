@@ -14,7 +14,7 @@ use channel_registers::ReadOutcome;
 use permissions::{BoardRights, Role};
 use refusal::Verdict;
 
-#[derive(Drop)]
+#[derive(Clone, Copy)]
 pub struct Read {
     pub board: GuardedBoard,
     pub outcome: ReadOutcome,

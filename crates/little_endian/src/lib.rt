@@ -1,4 +1,6 @@
 // Little-endian numbers in a slice of bytes. An index has 32 bits: then those after it are indices too, whatever it is.
+#![tactic(auto)]
+
 ghost use Rattle.std.specs.Prelude.{◌≡◌, get_or};
 ghost use Rattle.little_endian.specs.Numbers.{number16, number32};
 

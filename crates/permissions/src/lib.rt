@@ -1,30 +1,32 @@
 // Who makes a call, and what the opening lets them do at each channel. It knows no board.
+#![tactic(auto)]
+
 ghost use Rattle.std.specs.Prelude.{◌≡◌};
 ghost use Rattle.permissions.specs.Rights.{no_rights, no_board_rights, rights_of, rights_at, may_read, may_write, clears, reads_register, may_read_register, is_examiner, may_tick};
 
 // Document 02, card 9, calls this a seat.
-#[derive(Drop)]
+#[derive(Clone, Copy)]
 pub enum Role {
     Examiner,
     Candidate,
     Watcher,
 }
 
-#[derive(Drop)]
+#[derive(Clone, Copy)]
 pub struct Rights {
     pub read: bool,
     pub write: bool,
 }
 
 // The rights at one channel of those who have not all.
-#[derive(Drop)]
+#[derive(Clone, Copy)]
 pub struct ChannelRights {
     pub candidate: Rights,
     pub watcher: Rights,
 }
 
 // Those at channels 1 to 4.
-#[derive(Drop)]
+#[derive(Clone, Copy)]
 pub struct BoardRights {
     pub first: ChannelRights,
     pub second: ChannelRights,

@@ -12,7 +12,7 @@ use refusal::Verdict;
 type Captured = [u64; 128];
 
 // The channels whose frames are printed.
-#[derive(Drop)]
+#[derive(Clone, Copy)]
 struct Shown {
     pub first: bool,
     pub second: bool,

@@ -8,28 +8,28 @@ ghost use Rattle.ramp.specs.Copying.{empty_list, appended, copied, copy_count, l
 
 use refusal::Refusal;
 
-#[derive(Drop)]
+#[derive(Clone, Copy)]
 pub struct Breakpoint {
     pub index: u32,
     pub code: i16,
 }
 
 // How many words were written to each buffer, or the refusal.
-#[derive(Drop)]
+#[derive(Clone, Copy)]
 pub enum WordCount {
     Words(u32),
     Refused(Refusal),
 }
 
 // A list of up to 64 breakpoints by value: the first `count` of the array.
-#[derive(Drop)]
+#[derive(Clone, Copy)]
 struct Breakpoints {
     pub count: usize,
     pub points: [Breakpoint; 64],
 }
 
 // A code's 16 bits, and the remainder.
-#[derive(Drop)]
+#[derive(Clone, Copy)]
 struct Sample {
     pub code: u32,
     pub remainder: u32,

@@ -8,7 +8,7 @@ use status::weigh;
 // What stands after the readbacks of a group.
 const END_WORD: u32 = 0x200_0000;
 
-#[derive(Drop)]
+#[derive(Clone, Copy)]
 pub struct Readbacks {
     // How many the active buffer holds.
     pub stored: u32,
@@ -17,7 +17,7 @@ pub struct Readbacks {
 }
 
 // What becomes of a well-framed reply.
-#[derive(Drop)]
+#[derive(Clone, Copy)]
 pub enum Disposition {
     // "unasked"
     Unsolicited,

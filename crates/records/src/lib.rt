@@ -7,14 +7,14 @@ ghost use Rattle.records.specs.Requests.{request_of, write_asked, setpoint_asked
 use refusal::Refusal;
 
 // The answer of the call beside the reader: the length of the records in bytes.
-#[derive(Drop)]
+#[derive(Clone, Copy)]
 pub enum RecordsLength {
     Bytes(usize),
     Refused(Refusal),
 }
 
 // What a record asks of the board; `Bad` is refused 9.
-#[derive(Drop)]
+#[derive(Clone, Copy)]
 pub enum Request {
     Write {
         address: u32,

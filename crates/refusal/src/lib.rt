@@ -1,9 +1,11 @@
 // The refusals of document 01's list and of the requests of document 02 that landed, the number of each, and the verdict on a call.
+#![tactic(auto)]
+
 ghost use Rattle.std.specs.Prelude.{◌≡◌};
 ghost use Rattle.refusal.specs.Refusals.{number_of};
 
 // The comment gives the papers' word for it ("Trade's word").
-#[derive(Drop)]
+#[derive(Clone, Copy)]
 pub enum Refusal {
     // misfit
     SizeMismatch,
@@ -34,7 +36,7 @@ pub enum Refusal {
 }
 
 // Whether a call is refused, and by which refusal.
-#[derive(Drop)]
+#[derive(Clone, Copy)]
 pub enum Verdict {
     Allowed,
     Refused(Refusal),

@@ -7,7 +7,7 @@ ghost use Rattle.refusal.specs.Refusals.{verdict_number};
 use refusal::{Refusal, Verdict};
 
 // What a register call may do at an offset. None: the offset is not in the map.
-#[derive(Drop)]
+#[derive(Clone, Copy)]
 pub enum Access {
     None,
     ReadOnly,

@@ -10,7 +10,7 @@ pub const GROUP_END_EVENT: u8 = 5;
 
 pub const TAG_EVENT: u8 = 6;
 
-#[derive(Drop)]
+#[derive(Clone, Copy)]
 pub struct Registers {
     // 0A
     pub clock: u16,

@@ -17,7 +17,7 @@ use refusal::Refusal;
 use tally::Counts;
 
 // The board of a run, and what is counted so far.
-#[derive(Drop)]
+#[derive(Clone, Copy)]
 pub struct RunState {
     pub board: Board,
     pub counts: Counts,

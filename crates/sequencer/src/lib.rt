@@ -12,7 +12,7 @@ ghost use Rattle.sequencer.specs.Playing.{opened, unfinished, nothing_sent, shor
 const READBACK_ID: u8 = 0x15;
 
 // What the channel is doing.
-#[derive(Drop)]
+#[derive(Clone, Copy)]
 pub enum Stage {
     Idle,
     // The countdown to the first word.
@@ -28,7 +28,7 @@ pub enum Stage {
 }
 
 // What a setpoint word asks for: nothing, a pause (0 the VME pause), the end.
-#[derive(Drop)]
+#[derive(Clone, Copy)]
 pub enum Kind {
     Plain,
     Pause(u8),
@@ -36,7 +36,7 @@ pub enum Kind {
 }
 
 // The last send since idle, if any, what it was, the Frame ID that it carried, whether it used a tag, and the replies after it.
-#[derive(Drop)]
+#[derive(Clone, Copy)]
 pub struct LastSend {
     pub sent: bool,
     pub first: bool,
@@ -47,7 +47,7 @@ pub struct LastSend {
     pub replies: u8,
 }
 
-#[derive(Drop)]
+#[derive(Clone, Copy)]
 pub struct Sequencer {
     pub armed: bool,
     pub stage: Stage,
@@ -69,13 +69,13 @@ pub struct Sequencer {
 }
 
 // What a tick sends: nothing, or a word, with the status bit that the word latches (0: none).
-#[derive(Drop)]
+#[derive(Clone, Copy)]
 pub enum Transmission {
     Nothing,
     Word { word: u32, condition: u8 },
 }
 
-#[derive(Drop)]
+#[derive(Clone, Copy)]
 pub struct Ticked {
     pub sequencer: Sequencer,
     pub transmission: Transmission,

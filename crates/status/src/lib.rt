@@ -1,4 +1,6 @@
 // A channel's status: what is enabled, and two copies of the latched conditions, each with the channel's bit in the Main status of that copy.
+#![tactic(auto)]
+
 ghost use Rattle.std.specs.Prelude.{◌≡◌, ◌+◌, ◌*◌, ◌<◌, ◌≤◌};
 ghost use Rattle.status.specs.Bits.{bit_at, bit_of, word_of_bits};
 ghost use Rattle.status.specs.Latching.{none, latched_in, cleared_in, taken_in, opened, latched, kept_enable, enabled, reset};
@@ -20,13 +22,13 @@ pub const MISSING_READBACK: u8 = 4;
 pub const CRC_ERROR: u8 = 2;
 
 // One copy of the status (Interrupt or Polling): the latched conditions, and the channel's bit in Main's status of the same name.
-#[derive(Drop)]
+#[derive(Clone, Copy)]
 pub struct Latches {
     pub bits: [bool; 16],
     pub main: bool,
 }
 
-#[derive(Drop)]
+#[derive(Clone, Copy)]
 pub struct Status {
     pub enable: u16,
     pub interrupt: Latches,
@@ -138,6 +140,7 @@ impl Status {
     }
 
     // A condition happens: it latches in both copies, and sets both Main bits where it is enabled.
+    #[tactic(auto, unfolding(crate::specs::Latching::latched))]
     pub fn latched(self, bit: u8) -> Status
         ensures { result ≡ latched self bit }
     {

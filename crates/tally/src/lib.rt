@@ -12,7 +12,7 @@ use channel_registers::ReadOutcome;
 use channel_replies::Receipt;
 use refusal::Refusal;
 
-#[derive(Drop)]
+#[derive(Clone, Copy)]
 pub struct Counts {
     pub steps: u32,
     pub refused: u32,
@@ -23,7 +23,7 @@ pub struct Counts {
 }
 
 // The answer of a run: the six counts, or the file is refused.
-#[derive(Drop)]
+#[derive(Clone, Copy)]
 pub enum Ran {
     Counted(Counts),
     Refused(Refusal),

@@ -4,7 +4,7 @@ ghost use Rattle.tick_outcome.specs.Outcomes.{silence_at, silence, outcome};
 
 use sequencer::{Sequencer, Stage};
 
-#[derive(Drop)]
+#[derive(Clone, Copy)]
 pub enum TickOutcome {
     // There was no tick yet.
     NoTick,
