@@ -1,7 +1,6 @@
 -- `status::is_set` meets its contract: the shifted word is odd where the bit is set, and no word of sixteen bits has a bit at 16 or above. Assumes nothing.
 use native.Mathlib.Omega.{arith}
 use mathlib.Core.Path.{sym}
-use borrow.Author.Rules.{rules}
 use Rattle.status.proofs.Words.{bit_past}
 use Rattle.status.proofs.is_set.Goals as goal
 

@@ -1,6 +1,6 @@
 -- `status::word_of_bits` meets its contract: `word` is the word of the bits from `i` on, as `i` goes down from 16 to 0. Assumes nothing.
-use Rattle.std.proofs.Common.{◌≡◌, ℕ, ◌+◌, ◌*◌, ◌-◌, ◌<◌, length, get_or, drop, false, ap, ◌∙◌, arith}
-use Rattle.status.specs.Bits.{bit_of, word_of_bits}
+use Rattle.std.proofs.Common.{◌≡◌, ℕ, ◌+◌, ◌*◌, ◌-◌, length, get_or, false, ap, ◌∙◌, arith}
+use Rattle.status.specs.Bits.{bit_of}
 use Rattle.status.proofs.Words.{word_back, word_small, word_none}
 use Rattle.status.proofs.word_of_bits.Goals as goal
 
