@@ -1,4 +1,4 @@
--- `ramp::copy`: the list so far is what the first `count` elements make. The measure is what is left of them.
+-- The loop of `ramp::copy`: the list so far is what the first `count` elements make. The measure is what is left of them. Assumes nothing.
 use mathlib.Core.Path.{◌≡◌}
 use Prim.Native.Nat.{◌-◌, ◌≤◌}
 use Rattle.ramp.specs.Copying.{copied}

@@ -1,4 +1,4 @@
--- `ramp::fill`: all words before i are written, and i has reached segment k or is one past it. The measure is what is left of the indices.
+-- The loop of `ramp::fill`: all words before i are written, and i has reached segment k or is one past it. The measure is what is left of the indices. Assumes nothing.
 use Prim.Native.Nat.{◌+◌, ◌-◌}
 use lib.ListN.{take}
 use Rattle.ramp.proofs.Filling.{Going}

@@ -1,4 +1,4 @@
--- `ramp::is_increasing`: the first k steps rise. The measure is what is left of the steps.
+-- The loop of `ramp::is_increasing`: the first k steps rise. The measure is what is left of the steps. Assumes nothing.
 use Prim.Native.Nat.{ℕ, suc, ◌-◌, ◌≤◌, ◌<◌}
 use Rattle.ramp.specs.Ramp.{index_at}
 use Rattle.ramp.proofs.is_increasing.Given as goal

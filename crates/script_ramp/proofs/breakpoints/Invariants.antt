@@ -1,4 +1,4 @@
--- `breakpoints`: the measure is what is left of the array.
+-- `script_ramp::breakpoints` ends: the measure is what is left of the array. Assumes nothing.
 use Prim.Native.Nat.{◌-◌}
 use Rattle.script_ramp.proofs.breakpoints.Given as goal
 
