@@ -15,13 +15,13 @@ returns-then-may_read c =
     let a = m.args in
     c.retired.ensures
     ∙ ap part_in
-    (sym (answer_granted a.g.rights-1 a.role a.g.board (query a.number retired) (buffers a.one.now a.two.now)
-    (ap not (sym m.may_read_lem.ensures ∙ c.if-may_read.true))))
+    (sym (answer_granted a.g.rights a.role a.g.board (query a.number retired) (buffers a.one.now a.two.now)
+    (ap not (sym m.may_read.ensures ∙ c.if-may_read.true))))
 
 pub returns : goal.returns
 returns c =
     let m = c in
     let a = m.args in
     ap part_in
-    (sym (answer_denied a.g.rights-1 a.role a.g.board (query a.number retired) (buffers a.one.now a.two.now)
-    (ap not (sym m.may_read_lem.ensures ∙ c.if-may_read.false))))
+    (sym (answer_denied a.g.rights a.role a.g.board (query a.number retired) (buffers a.one.now a.two.now)
+    (ap not (sym m.may_read.ensures ∙ c.if-may_read.false))))

@@ -1,39 +1,30 @@
 -- `guarded_registers::read_register` meets its contract: what is checked before the call, then the board's own. Assumes nothing.
-use mathlib.Core.Path.{ap, ◌∙◌}
+use mathlib.Core.Path.{ap, ◌∙◌, refl}
 use Rattle.board_state.specs.declared.Board.{Board}
 use Rattle.board.specs.Answers.{one}
 use Rattle.isolation.specs.Calls.{Call, read_register, none, answer, after}
 use Rattle.access_control.specs.Guarding.{guard_refusal, guarded}
 use Rattle.access_control.proofs.Verdicts.{Decides, allowed_board, allowed_answer, refused_board, refused_answer}
-use borrow.Author.Rules.{rules}
+use Rattle.refusal.specs.declared.Verdict.TheVariants as verdict
 use Rattle.guarded_registers.proofs.read_register.Goals as goal
 
-module _ (c : tie.After-check-permission) where
-  abbrev given : tie.Start
-  given = c.before.before.before.before.before.before
-
-  abbrev call : Call
-  call = read_register given.args.address
-
-  decides : Decides given.args.g given.args.role call (none) c.check-permission.result
-  unfolding guard_refusal
-  decides = simp (c.check-permission.ensures, c.before.may_read_lem.ensures, c.before.before.check-address.ensures, c.before.before.before.decode-address.ensures)
-
 pub returns-in-Allowed : goal.returns-in-Allowed
-unfolding answer after
+unfolding answer after guard_refusal
 returns-in-Allowed c =
-    let w = c.read-register.ensures in
-    let z = c in
-    let k = c in
-    let a = (given k).args in (
-      ap (λ (b : Board). guarded b a.g.rights-1) w.0 ∙ allowed_board a.g a.role (call k) (none) (decides k) z.enum_told-1.given.1,
-      ap one w.1 ∙ allowed_answer a.g a.role (call k) (none) (decides k) z.enum_told-1.given.1,
+    let a = c.args in
+    let x : Call = read_register a.address in
+    let e : Decides a.g a.role x (none) verdict.Allowed = c.in-Allowed.ensures ∙ simp (c.may_read.ensures, c.check_address.ensures, c.decode_address-region.ensures) in
+    let w = c.read_register-read.ensures in (
+      ap (λ (b : Board). guarded b a.g.rights) w.0 ∙ allowed_board a.g a.role x (none) e refl,
+      ap one w.1 ∙ allowed_answer a.g a.role x (none) e refl,
     )
 
 pub returns-in-Refused : goal.returns-in-Refused
+unfolding guard_refusal
 returns-in-Refused c =
-    let k = c in
-    let a = (given k).args in (
-      refused_board a.g a.role (call k) (none) (decides k) _ c.verdict-1.given.1,
-      refused_answer a.g a.role (call k) (none) (decides k) _ c.verdict-1.given.1,
+    let a = c.args in
+    let x : Call = read_register a.address in
+    let e : Decides a.g a.role x (none) (verdict.Refused c.in-Refused.reason) = c.in-Refused.ensures ∙ simp (c.may_read.ensures, c.check_address.ensures, c.decode_address-region.ensures) in (
+      refused_board a.g a.role x (none) e _ refl,
+      refused_answer a.g a.role x (none) e _ refl,
     )
