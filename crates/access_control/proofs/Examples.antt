@@ -1,18 +1,17 @@
 -- There are two lists that the claim speaks of. Assumes nothing.
 use Prim.Native.Nat.{ℕ}
 use mathlib.Core.Path.{◌≡◌, refl, sym, ap, ◌∙◌}
-use mathlib.Core.Logic.{inl, inr}
+use mathlib.Core.Logic.{inr}
 use mathlib.Core.List.{List}
 use Rattle.channel.proofs.Cases.{either}
-use Rattle.board.specs.Answers.{refuses}
 use Rattle.board.specs.Worlds.{World}
-use Rattle.isolation.specs.Calls.{tick, words, refused, step, opening}
+use Rattle.isolation.specs.Calls.{words, refused, step, opening}
 use Rattle.permissions.specs.declared.Role.TheVariants as role
 use Rattle.permissions.specs.declared.BoardRights.{BoardRights}
 use Rattle.access_control.specs.Guarding.{guarded_step, GuardedFits}
 use Rattle.access_control.specs.Noninterference.{arming, tick_by, NotVacuous}
 use Rattle.access_control.proofs.Granted.{denied_fits}
-use Rattle.access_control.proofs.Laws.{answer_denied, step_denied, step_granted}
+use Rattle.access_control.proofs.Laws.{step_denied, step_granted}
 
 -- arming leaves the setpoints
 arming_sets : (r : BoardRights) (w : World) → (guarded_step r w arming).setpoints ≡ w.setpoints

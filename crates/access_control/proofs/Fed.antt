@@ -14,7 +14,6 @@ use Rattle.channel.specs.OneChannel.{Query, ChannelCall, length_refusal, refusal
 use Rattle.channel.specs.OneChannel as to
 use Rattle.board_state.specs.Checks.{setpoints_fit}
 use Rattle.board.specs.Answers.{BoardAnswer, one}
-use Rattle.board.specs.Calls as board
 use Rattle.board.specs.Worlds.{World}
 use Rattle.isolation.specs.Calls.{Call, write_register, read_register, write_setpoint, arm, disarm, open_download, reply, query, tick, event, change_user, interrupt_level, Lent, first, second, query_lending, Fits}
 use Rattle.isolation.specs.Calls as calls

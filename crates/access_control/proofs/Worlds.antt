@@ -1,22 +1,16 @@
 -- A call that its role may make is a call that demand 3 allows; a good world stays good and keeps its depths. Assumes nothing.
-use Prim.Native.Nat.{ℕ}
 use mathlib.Core.Path.{◌≡◌, refl, sym, ap, subst, ◌∙◌}
 use mathlib.Core.Logic.{inl, inr}
 use mathlib.Core.Bool.{Bool, true, false}
-use mathlib.Core.List.{List, []}
 use native.Mathlib.Omega.{arith}
-use lib.ListN.{length}
 use lib.Dec.{eqb}
-use Rattle.channel_core.specs.Answers as ans
 use Rattle.channel.specs.OneChannel.{OneChannel}
 use Rattle.histories.proofs.Depths.{depths_kept}
 use Rattle.board_state.specs.declared.Board.{Board}
 use Rattle.board.specs.Answers.{refuses}
-use Rattle.board.specs.Calls.{open_answer}
 use Rattle.board.specs.Worlds.{World}
-use Rattle.isolation.specs.Calls.{Call, Lent, Item, answer, refused, step, Fits, opening}
+use Rattle.isolation.specs.Calls.{Call, Lent, Item, answer, refused, step, Fits}
 use Rattle.isolation.specs.Feeding.{feeds, view}
-use Rattle.isolation.specs.Isolation.{one_channel_at}
 use Rattle.isolation.proofs.Parts.{Number}
 use Rattle.isolation.proofs.Refused.{refused_changes_nothing}
 use Rattle.isolation.proofs.Worlds.{Good, step_refused}

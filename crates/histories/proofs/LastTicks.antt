@@ -34,7 +34,7 @@ use Rattle.channel.specs.OneChannel.{ChannelCall, OneChannel, one_channel, refus
 use Rattle.channel.specs.OneChannel as call
 use Rattle.channel.proofs.Cases.{either, clash}
 use Rattle.histories.specs.History.{Entry, entry, history, asks, resets, makes_tick}
-use Rattle.histories.specs.LastTicks.{LastTick, no_tick, made_tick, last_tick_after, last_tick_since, is_disarmed, in_start_delay, in_start_gap, in_resume_gap, is_clocked, condition_at, condition, place, FirstHeld, OneFirstHeld, LastTickNamed, NoTickNorReset, LastTickStays, LastTickSeen, ResetForgets}
+use Rattle.histories.specs.LastTicks.{LastTick, no_tick, made_tick, last_tick_after, last_tick_since, is_disarmed, in_start_delay, in_start_gap, in_resume_gap, is_clocked, condition_at, place, FirstHeld, OneFirstHeld, LastTickNamed, NoTickNorReset, LastTickStays, LastTickSeen, ResetForgets}
 use Rattle.histories.proofs.Accepted.{accepted_answer}
 use Rattle.histories.proofs.Cases.{by_offset}
 use Rattle.histories.proofs.Refusing.{accepted_response}

@@ -18,12 +18,12 @@ pub event_channel-after_fourth-requires : goal.event_channel-after_fourth-requir
 event_channel-after_fourth-requires c = (
   omega arith,
   rw (
-      c.event_channel-after_third.ensures.0,
-      event_depth,
-      c.event_channel-after_second.ensures.0,
-      event_depth,
-      c.event_channel-after_first.ensures.0,
-      event_depth,
+    c.event_channel-after_third.ensures.0,
+    event_depth,
+    c.event_channel-after_second.ensures.0,
+    event_depth,
+    c.event_channel-after_first.ensures.0,
+    event_depth,
   ) (omega arith),
 )
 

@@ -1,10 +1,6 @@
 -- `board_channels::retired` meets its contract: the empty part where the channel is out of range, and else what the channel gives. Assumes nothing.
 use Rattle.board_channels.proofs.RetiredPart.{retired_part_lem}
 use Rattle.board_channels.specs.Calls.{retired_words}
-use Rattle.channel.proofs.Ranges.{inside}
-use borrow.Author.Rules.{rules}
-use mathlib.Core.Path.{sym, ◌∙◌}
-use native.Mathlib.Omega.{arith}
 use Rattle.board_channels.proofs.retired.Goals as goal
 
 pub returns-then-is_outside : goal.returns-then-is_outside

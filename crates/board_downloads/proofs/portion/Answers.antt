@@ -1,10 +1,6 @@
 -- `board_downloads::portion` meets its contract: the empty part where the channel is out of range, and else what the channel gives. Assumes nothing.
-use mathlib.Core.Path.{sym, ◌∙◌}
-use native.Mathlib.Omega.{arith}
-use Rattle.channel.proofs.Ranges.{inside}
 use Rattle.board_downloads.specs.Calls.{portion_words}
 use Rattle.board_downloads.proofs.Portions.{portion_part}
-use borrow.Author.Rules.{rules}
 use Rattle.board_downloads.proofs.portion.Goals as goal
 
 pub returns-then-is_outside : goal.returns-then-is_outside

@@ -5,7 +5,6 @@ use lib.Ieee.{binary64, mul, div, of_int, of_bits}
 use mir.Syntax.{w32}
 use mir.Val.{to_z, of_z}
 use mir.ValLaws.{to_z-of_z}
-use borrow.Author.Rules.{rules}
 use Rattle.codes.specs.Codes.{code_of}
 use Rattle.codes.specs.Voltage.{ten, full_scale, voltage_of}
 use Rattle.codes.proofs.Codes.{code_fits}

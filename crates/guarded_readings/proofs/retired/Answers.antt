@@ -5,7 +5,6 @@ use Rattle.channel.specs.OneChannel.{retired}
 use Rattle.isolation.specs.Calls.{query, buffers, answer}
 use Rattle.access_control.specs.Guarding.{part_in}
 use Rattle.access_control.proofs.Laws.{answer_denied, answer_granted}
-use borrow.Author.Rules.{rules}
 use Rattle.guarded_readings.proofs.retired.Goals as goal
 
 pub returns-then-may_read : goal.returns-then-may_read

@@ -1,5 +1,5 @@
 -- `command_frames::CommandFrames::received` meets its contract: where a reply is taken, fewer than six are there. Assumes nothing.
-use Rattle.std.proofs.Common.{◌≡◌, ◌<◌, sym, ◌∙◌, arith}
+use Rattle.std.proofs.Common.{sym, ◌∙◌, arith}
 use Rattle.command_frames.proofs.Laws.{taken_few}
 use Rattle.command_frames.proofs.CommandFrames.received.Goals as goal
 
