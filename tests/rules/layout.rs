@@ -42,8 +42,10 @@ pub fn layout() -> Vec<String> {
         }
         if path.extension().is_some_and(|e| e == "rt") {
             bad.extend(long_functions(&text).into_iter().map(|w| format!("{shown}: {w}")));
-            if text.lines().count() > 330 {
-                bad.push(format!("{shown} has {} lines", text.lines().count()));
+            // an attribute for the proof is no line of code
+            let lines = text.lines().filter(|l| !l.trim_start().starts_with("#[tactic(")).count();
+            if lines > 330 {
+                bad.push(format!("{shown} has {lines} lines"));
             }
         }
     }

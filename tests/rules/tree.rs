@@ -13,7 +13,10 @@ pub fn files(at: &Path, out: &mut Vec<PathBuf>) {
     entries.sort();
     for path in entries {
         if path.is_dir() {
-            files(&path, out);
+            // a crate's out/ is made by rt
+            if !path.ends_with("out") {
+                files(&path, out);
+            }
         } else {
             out.push(path);
         }
