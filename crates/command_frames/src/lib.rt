@@ -1,4 +1,6 @@
 // Command frames of one channel, which leave between functions: their registers E0-FE, the frame that waits, and the replies to the last one sent.
+#![tactic(auto)]
+
 ghost use Rattle.std.specs.Prelude.{◌≡◌};
 ghost use Rattle.command_frames.specs.Commanding.{opened, with_waiting, with_receiving, requested, is_due, reached, elapsed, stored, loaded, command_frame, ticked, group_ended, dropped, takes, id_word, received};
 
@@ -86,6 +88,7 @@ impl CommandFrames {
     }
 
     // A value written at an offset that holds it, or to FC.
+    #[tactic(auto, unfolding(crate::specs::Commanding::stored))]
     pub fn stored(self, offset: u16, value: u16) -> CommandFrames
         ensures { result ≡ stored self offset value }
     {
@@ -106,6 +109,7 @@ impl CommandFrames {
     }
 
     // What a read shows at an offset.
+    #[tactic(auto, unfolding(crate::specs::Commanding::loaded))]
     pub fn loaded(self, offset: u16) -> u16
         ensures { result ≡ loaded self offset }
     {
@@ -142,6 +146,7 @@ impl CommandFrames {
     }
 
     // The frame that leaves, if it leaves now.
+    #[tactic(auto, unfolding(crate::specs::Commanding::command_frame))]
     pub fn frame(self) -> u64
         ensures { result ≡ command_frame self }
     {
@@ -168,6 +173,7 @@ impl CommandFrames {
     }
 
     // A tick; `setpoint`: a setpoint leaves on it.
+    #[tactic(auto, unfolding(crate::specs::Commanding::ticked))]
     pub fn ticked(self, setpoint: bool) -> CommandFrames
         ensures { result ≡ ticked self setpoint }
     {
@@ -184,6 +190,7 @@ impl CommandFrames {
     }
 
     // Group End's share: a frame that waited for it is due, and replies go to E4-FA no longer.
+    #[tactic(auto, unfolding(crate::specs::Commanding::group_ended))]
     pub fn group_ended(self) -> CommandFrames
         ensures { result ≡ group_ended self }
     {
@@ -192,6 +199,7 @@ impl CommandFrames {
     }
 
     // Disarm's share: what waits is dropped.
+    #[tactic(auto, unfolding(crate::specs::Commanding::dropped))]
     pub fn dropped(self) -> CommandFrames
         ensures { result ≡ dropped self }
     {
@@ -199,6 +207,7 @@ impl CommandFrames {
     }
 
     // Whether the next reply goes to E4-FA.
+    #[tactic(auto, unfolding(crate::specs::Commanding::takes))]
     pub fn takes(self) -> bool
         ensures { result ≡ takes self }
     {
@@ -209,6 +218,7 @@ impl CommandFrames {
     }
 
     // A reply that goes to E4-FA, if it does.
+    #[tactic(auto, unfolding(crate::specs::Commanding::received))]
     pub fn received(self, wrong: bool, id: u8, data: u16) -> CommandFrames
         ensures { result ≡ received self wrong id «data» }
     {

@@ -1,4 +1,6 @@
 // The 43-bit frame and its CRC (document 01, Frame).
+#![tactic(auto)]
+
 mod remainder_table;
 
 ghost use Rattle.std.specs.Prelude.{◌≡◌};
@@ -51,6 +53,7 @@ fn frame_crc(id: u8, data: u16, auxiliary: u8) -> u8
 }
 
 // The frame that carries these values.
+#[tactic(auto, unfolding(crate::specs::Frames::encoded))]
 pub fn encode(id: u8, data: u16, auxiliary: u8) -> u64
     ensures { result ≡ encoded id «data» auxiliary }
 {
@@ -60,6 +63,7 @@ pub fn encode(id: u8, data: u16, auxiliary: u8) -> u64
 }
 
 // The fields of any number, or that it is not well framed.
+#[tactic(auto, unfolding(crate::specs::Frames::read))]
 pub fn decode(frame: u64) -> Decoded
     ensures { reading_of result ≡ read frame }
 {
@@ -81,6 +85,7 @@ pub fn decode(frame: u64) -> Decoded
 }
 
 // Whether a CRC as received is right for the fields beside it.
+#[tactic(auto, unfolding(crate::specs::Frames::crc_right))]
 pub fn crc_matches(id: u8, data: u16, auxiliary: u8, crc: u8) -> bool
     ensures { result ≡ crc_right id «data» auxiliary crc }
 {

@@ -1,4 +1,6 @@
 // Readbacks of a channel: which replies are kept, the word stored for one, the end word of a group, and the retired part.
+#![tactic(auto)]
+
 ghost use Rattle.std.specs.Prelude.{◌≡◌, set, take};
 ghost use Rattle.readback.specs.Storing.{opened, stored_word, place_of, capacity, disposition_of, kept_in, kept_words, end_words, group_ended, retired_part};
 
@@ -26,6 +28,7 @@ pub enum Disposition {
 }
 
 // The word stored for a reply with these fields.
+#[tactic(auto, unfolding(crate::specs::Storing::stored_word))]
 pub fn stored_word(last: LastSend, user: u8, wrong: bool, id: u8, data: u16) -> u32
     ensures { result ≡ stored_word last user wrong id «data» }
 {
@@ -68,6 +71,7 @@ pub fn store(words: &mut [u32], at: usize, word: u32)
 }
 
 // What becomes of a reply.
+#[tactic(auto, unfolding(crate::specs::Storing::disposition_of))]
 pub fn dispose(idle: bool, last: LastSend, stored: u32, m: u32) -> Disposition
     ensures { result ≡ disposition_of idle last stored m }
 {

@@ -1,4 +1,6 @@
 // The register map of document 01, with the registers that requests of document 02 add: the access of each offset, in one table that all register calls consult.
+#![tactic(auto)]
+
 ghost use Rattle.std.specs.Prelude.{◌≡◌, ◌<◌};
 ghost use Rattle.register_map.specs.AccessRule.{channel_access, entry_access, main_access};
 ghost use Rattle.register_map.specs.AccessRefusals.{read_refusal, write_refusal};
@@ -161,6 +163,7 @@ fn entry(i: usize) -> Access
 }
 
 // The access of an offset from a channel's start.
+#[tactic(auto, unfolding(crate::specs::AccessRule::entry_access))]
 pub fn channel_access(offset: u16) -> Access
     ensures { result ≡ channel_access offset }
 {
@@ -174,6 +177,7 @@ pub fn channel_access(offset: u16) -> Access
 }
 
 // The access of an offset of Main.
+#[tactic(auto, unfolding(crate::specs::AccessRule::entry_access))]
 pub fn main_access(offset: u16) -> Access
     ensures { result ≡ main_access offset }
 {

@@ -1,5 +1,7 @@
 // The registers of a channel that hold what is written to them, and those that only show.
 // Interrupt Enable and both statuses stand in the crate `status`.
+#![tactic(auto)]
+
 ghost use Rattle.std.specs.Prelude.{◌≡◌, ◌+◌, ◌-◌, false, get_or};
 ghost use Rattle.registers.specs.Map.{opened, period_of, matches, triggers_of, delay_of, second_active, delay_written, delay_shown, stored, loaded, flips, group_ended};
 
@@ -162,6 +164,7 @@ impl Registers {
     }
 
     // A value written at an offset that holds it.
+    #[tactic(auto, unfolding(crate::specs::Map::stored))]
     pub fn stored(self, offset: u16, value: u16) -> Registers
         ensures { result ≡ stored self offset value }
     {
@@ -200,6 +203,7 @@ impl Registers {
     }
 
     // What a read shows at an offset.
+    #[tactic(auto, unfolding(crate::specs::Map::loaded))]
     pub fn loaded(self, offset: u16) -> u16
         ensures { result ≡ loaded self offset }
     {
@@ -239,6 +243,7 @@ impl Registers {
     }
 
     // Group End's share: the readback buffers switch, users with their bit set switch and the bits clear, the count is shown.
+    #[tactic(auto, unfolding(crate::specs::Map::group_ended))]
     pub fn group_ended(self, count: u32) -> Registers
         ensures { result ≡ group_ended self count }
     {

@@ -1,6 +1,8 @@
 // Playing a function: arming, the stage, the countdowns, which word is due, what is sent, the setpoint count, the count of missing readbacks, and a tag
 // for the next send.
 // The sequencer knows no register and no memory: the word due, the period and the Frame ID are handed in on each tick.
+#![tactic(auto)]
+
 pub mod stages;
 mod ticks;
 mod words;
@@ -107,6 +109,7 @@ impl LastSend {
     }
 
     // How many of the six replies are missing after a send of Frame ID 15h; none after another send, or no send.
+    #[tactic(auto, unfolding(crate::specs::Playing::shortfall))]
     pub fn shortfall(self) -> u8
         ensures { result ≡ shortfall self }
     {
@@ -154,6 +157,7 @@ impl Sequencer {
     }
 
     // The function dropped; armed or not, both counts, and a tag not yet used stay.
+    #[tactic(auto, unfolding(crate::specs::Playing::idled))]
     pub fn idled(self) -> Sequencer
         ensures { result ≡ idled self }
     {
@@ -171,6 +175,7 @@ impl Sequencer {
         }
     }
 
+    #[tactic(auto, unfolding(crate::specs::Playing::armed))]
     pub fn armed(self) -> Sequencer
         ensures { result ≡ armed self }
     {
@@ -179,6 +184,7 @@ impl Sequencer {
         next
     }
 
+    #[tactic(auto, unfolding(crate::specs::Playing::idled, crate::specs::Playing::disarmed))]
     pub fn disarmed(self) -> Sequencer
         ensures { result ≡ disarmed self }
     {
@@ -189,6 +195,7 @@ impl Sequencer {
     }
 
     // Start, with a delay, of a channel that is armed.
+    #[tactic(auto, unfolding(crate::specs::Playing::started))]
     pub fn started(self, delay: u32) -> Sequencer
         ensures { result ≡ started self delay }
     {
@@ -208,6 +215,7 @@ impl Sequencer {
     }
 
     // Resume of a pause (0 the VME pause), with a delay; nothing where the channel is not in that pause.
+    #[tactic(auto, unfolding(crate::specs::Playing::resumed))]
     pub fn resumed(self, pause: u8, delay: u32) -> Sequencer
         ensures { result ≡ resumed self pause delay }
     {
@@ -240,6 +248,7 @@ impl Sequencer {
     }
 
     // A reply after the last send, kept or lost.
+    #[tactic(auto, unfolding(crate::specs::Playing::answered))]
     pub fn answered(self) -> Sequencer
         ensures { result ≡ answered self }
     {
@@ -272,6 +281,7 @@ impl Sequencer {
     }
 
     // Group End's share: the function and a tag not yet used dropped, the setpoint count cleared.
+    #[tactic(auto, unfolding(crate::specs::Playing::idled, crate::specs::Playing::group_ended))]
     pub fn group_ended(self) -> Sequencer
         ensures { result ≡ group_ended self }
     {
@@ -282,6 +292,7 @@ impl Sequencer {
     }
 
     // A tag for the next send, of a channel that is armed.
+    #[tactic(auto, unfolding(crate::specs::Playing::tagged))]
     pub fn tagged(self) -> Sequencer
         ensures { result ≡ tagged self }
     {

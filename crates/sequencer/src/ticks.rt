@@ -23,6 +23,7 @@ fn quiet(sequencer: Sequencer) -> Ticked
 
 impl Sequencer {
     // The word due is sent.
+    #[tactic(auto, unfolding(crate::specs::Playing::sent_next, crate::specs::Playing::sent_as))]
     fn send_next(self, due: u32, n: u32, period: u32, id: u8) -> Ticked
         ensures { result ≡ sent_next self due n period id }
     {
@@ -59,6 +60,7 @@ impl Sequencer {
     }
 
     // The kept word is sent again.
+    #[tactic(auto, unfolding(crate::specs::Playing::repeated))]
     fn repeat(self, period: u32, id: u8) -> Ticked
         ensures { result ≡ repeated self period id }
     {
@@ -93,6 +95,7 @@ impl Sequencer {
     }
 
     // A tick towards the word due.
+    #[tactic(auto, unfolding(crate::specs::Playing::advancing))]
     fn advance(self, due: u32, n: u32, period: u32, id: u8) -> Ticked
         ensures { result ≡ advancing self due n period id }
     {
@@ -106,6 +109,7 @@ impl Sequencer {
     }
 
     // A tick towards the next repeat.
+    #[tactic(auto, unfolding(crate::specs::Playing::repeating))]
     fn hold(self, period: u32, id: u8) -> Ticked
         ensures { result ≡ repeating self period id }
     {
@@ -119,6 +123,7 @@ impl Sequencer {
     }
 
     // A tick of a resume: repeats through the delay, then nine silent ticks, then the word due.
+    #[tactic(auto, unfolding(crate::specs::Playing::resuming))]
     fn resume_tick(self, due: u32, n: u32, period: u32, id: u8) -> Ticked
         ensures { result ≡ resuming self due n period id }
     {
@@ -135,6 +140,7 @@ impl Sequencer {
     }
 
     // One tick. `due` is the word at the index due, `n` the depth of its buffer, `id` the Frame ID that a send carries.
+    #[tactic(auto, unfolding(crate::specs::Playing::ticked))]
     pub fn tick(self, due: u32, n: u32, period: u32, id: u8) -> Ticked
         ensures { result ≡ ticked self due n period id }
     {

@@ -1,4 +1,6 @@
 // What a tick of a channel did: it sent a frame, or why it sent none.
+#![tactic(auto)]
+
 ghost use Rattle.std.specs.Prelude.{◌≡◌};
 ghost use Rattle.tick_outcome.specs.Outcomes.{silence_at, silence, outcome};
 
@@ -43,6 +45,7 @@ fn armed_silence(before: Sequencer) -> TickOutcome
 }
 
 // Of a tick that sends nothing.
+#[tactic(auto, unfolding(crate::specs::Outcomes::silence))]
 pub fn silence(before: Sequencer) -> TickOutcome
     ensures { result ≡ silence before }
 {
@@ -53,6 +56,7 @@ pub fn silence(before: Sequencer) -> TickOutcome
 }
 
 // Of any tick, by whether it sends a frame and the sequencer just before it.
+#[tactic(auto, unfolding(crate::specs::Outcomes::outcome))]
 pub fn outcome(sends: bool, before: Sequencer) -> TickOutcome
     ensures { result ≡ outcome sends before }
 {
