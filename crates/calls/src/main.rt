@@ -7,7 +7,7 @@ use access_control::GuardedBoard;
 use call_script::script::{Header, Records};
 use call_script::{pool, roles, script};
 use output::Block;
-use std::io::{self, Read, Stdout};
+use std::io::{self, Stdout};
 
 // Opens the board of the header, and prints the answer as record 0.
 fn begin(
@@ -78,11 +78,11 @@ fn bad(out: Stdout, block: &mut Block) {
 fn main(rt: HostRuntime) -> io::Result<()> {
     let out = rt.stdout();
     let mut block = output::empty();
-    let mut bytes = Vec::new(rt.alloc());
-    rt.stdin().take(65537).read_to_end(&mut bytes)?;
-    let records = script::records_of(bytes.len());
+    let mut bytes = [0u8; 65537];
+    let length = input::read_full(&mut rt.stdin(), &mut bytes)?;
+    let records = script::records_of(length);
     match records {
-        Records::Count(count) => run(out, &mut block, &bytes, count),
+        Records::Count(count) => run(out, &mut block, &bytes[..length], count),
         Records::Bad => bad(out, &mut block),
     }
     output::flush(out, &mut block);

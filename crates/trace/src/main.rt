@@ -6,7 +6,7 @@ use output::Block;
 use permissions::{BoardRights, Role};
 use records::{RecordsLength, Request};
 use refusal::Refusal;
-use std::io::{self, Read, Stdout};
+use std::io::{self, Stdout};
 
 fn setpoint(
     out: Stdout,
@@ -142,11 +142,11 @@ fn refused(out: Stdout, block: &mut Block) {
 fn main(rt: HostRuntime) -> io::Result<()> {
     let out = rt.stdout();
     let mut block = output::empty();
-    let mut file = Vec::new(rt.alloc());
-    rt.stdin().take(65537).read_to_end(&mut file)?;
-    let answer = records::records_length(&file);
+    let mut file = [0u8; 65537];
+    let length = input::read_full(&mut rt.stdin(), &mut file)?;
+    let answer = records::records_length(&file[..length]);
     match answer {
-        RecordsLength::Bytes(_) => trace(out, &mut block, records::records(&file)),
+        RecordsLength::Bytes(_) => trace(out, &mut block, records::records(&file[..length])),
         RecordsLength::Refused(_) => refused(out, &mut block),
     }
     output::flush(out, &mut block);

@@ -5,7 +5,7 @@ use board_readings::TickReport;
 use board_state::Board;
 use output::Block;
 use records::RecordsLength;
-use std::io::{self, Read, Stdout};
+use std::io::{self, Stdout};
 use tick_outcome::TickOutcome;
 
 // Below: each name of document 02, card 10, with a sentence for whoever wrote the file.
@@ -117,11 +117,11 @@ fn refused(out: Stdout, block: &mut Block) {
 fn main(rt: HostRuntime) -> io::Result<()> {
     let out = rt.stdout();
     let mut block = output::empty();
-    let mut file = Vec::new(rt.alloc());
-    rt.stdin().take(65537).read_to_end(&mut file)?;
-    let answer = records::records_length(&file);
+    let mut file = [0u8; 65537];
+    let length = input::read_full(&mut rt.stdin(), &mut file)?;
+    let answer = records::records_length(&file[..length]);
     match answer {
-        RecordsLength::Bytes(_) => why(out, &mut block, records::records(&file)),
+        RecordsLength::Bytes(_) => why(out, &mut block, records::records(&file[..length])),
         RecordsLength::Refused(_) => refused(out, &mut block),
     }
     output::flush(out, &mut block);
