@@ -1,4 +1,6 @@
 // The board's calls by role: the board with the rights that its opening gave, and what is checked before a call is made. A check comes after the verdict that it is handed.
+#![tactic(auto)]
+
 ghost use Rattle.std.specs.Prelude.{◌≡◌, cond, not};
 ghost use Rattle.refusal.specs.Refusals.{verdict_number};
 ghost use Rattle.address_map.specs.Addresses.{named_of};

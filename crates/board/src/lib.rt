@@ -1,4 +1,6 @@
 // Opening, and the calls that every channel shares: tick, event, user change, and the interrupt level. Each lends a channel only its own part of the memory, and goes by that channel's own rules.
+#![tactic(auto)]
+
 ghost use Rattle.std.specs.Prelude.{◌≡◌, ◌*◌, ◌≤◌, length};
 ghost use Rattle.channel_core.specs.Answers.{line_of, outcome_of};
 ghost use Rattle.board_state.specs.Main.{level_of};
@@ -24,6 +26,7 @@ pub struct Ticked {
 }
 
 // Opens a board on the memory lent, or refuses and answers a closed one beside it.
+#[tactic(auto, unfolding(crate::specs::Calls::open_board, crate::specs::Calls::open_answer, crate::specs::Calls::open_refusal))]
 pub fn open(n: u32, m: u32, setpoints: &[u32], readbacks: &[u32]) -> Written
     ensures { (result.board ≡ open_board n m (length setpoints.now) (length readbacks.now)) × (outcome_of result.outcome ≡ open_answer n m (length setpoints.now) (length readbacks.now)) }
 {
@@ -55,6 +58,7 @@ fn refused_open() -> Written
 }
 
 // One channel's tick, over its part of the setpoints.
+#[tactic(auto, unfolding(crate::specs::Calls::tick_channel, crate::specs::Calls::tick_frame))]
 fn tick_channel(b: Board, setpoints: &[u32], number: u8) -> channel_core::Ticked
     requires { (number ≤ 4) × (length setpoints.now ≡ b.n * 64) }
     ensures { (result.channel ≡ tick_channel b setpoints.now number) × (line_of result.line ≡ tick_frame b setpoints.now number) }
@@ -66,6 +70,7 @@ fn tick_channel(b: Board, setpoints: &[u32], number: u8) -> channel_core::Ticked
     named.tick(&setpoints[start..end], n, b.user)
 }
 
+#[tactic(auto, unfolding(crate::specs::Calls::tick_board, crate::specs::Calls::tick_board_answer))]
 pub fn tick(b: Board, setpoints: &[u32]) -> Ticked
     ensures { (result.board ≡ tick_board b setpoints.now) × (frames_of result.frames ≡ tick_board_answer b setpoints.now) }
 {
@@ -98,6 +103,7 @@ pub fn tick(b: Board, setpoints: &[u32]) -> Ticked
 }
 
 // One channel's share of an event, over its part of the readbacks.
+#[tactic(auto, unfolding(crate::specs::Calls::event_board_at, crate::specs::Calls::event_words_at))]
 fn event_channel(b: Board, readbacks: &mut [u32], number: u8, code: u8) -> Board
     requires { (number ≤ 4) × (length readbacks.old ≡ b.m * 8) }
     ensures { (result ≡ event_board_at b code number) × (readbacks.new ≡ event_words_at b readbacks.old code number) }
@@ -110,6 +116,7 @@ fn event_channel(b: Board, readbacks: &mut [u32], number: u8, code: u8) -> Board
     b.with_channel(number, changed)
 }
 
+#[tactic(auto, unfolding(crate::specs::Calls::event_board, crate::specs::Calls::event_answer, crate::specs::Calls::event_words))]
 pub fn event(b: Board, readbacks: &mut [u32], code: u8) -> Written
     ensures { (result.board ≡ event_board b (length readbacks.old) code) × (outcome_of result.outcome ≡ event_answer b (length readbacks.old)) × (readbacks.new ≡ event_words b readbacks.old code) }
 {
@@ -129,6 +136,7 @@ pub fn event(b: Board, readbacks: &mut [u32], code: u8) -> Written
     }
 }
 
+#[tactic(auto, unfolding(crate::specs::Calls::changed_at))]
 fn change_channel(b: Board, number: u8) -> Board
     ensures { result ≡ changed_at b number }
 {
@@ -136,6 +144,7 @@ fn change_channel(b: Board, number: u8) -> Board
     b.with_channel(number, named.user_changed())
 }
 
+#[tactic(auto, unfolding(crate::specs::Calls::user_board, crate::specs::Calls::user_answer))]
 pub fn change_user(b: Board, user: u32) -> Written
     ensures { (result.board ≡ user_board b user) × (outcome_of result.outcome ≡ user_answer user) }
 {

@@ -1,4 +1,6 @@
 // The calls that name a channel by its number: setpoint write, arm, disarm, reply, and the retired readbacks. Each lends the channel only its own part of the memory, and goes by that channel's own rules.
+#![tactic(auto)]
+
 ghost use Rattle.std.specs.Prelude.{◌≡◌, length};
 ghost use Rattle.refusal.specs.Refusals.{verdict_number};
 ghost use Rattle.channel_core.specs.Answers.{outcome_of, part_of};
@@ -20,6 +22,7 @@ pub struct Received {
 }
 
 // A setpoint into the named channel's part. The board stays as it is.
+#[tactic(auto, unfolding(crate::specs::Calls::setpoint_answer, crate::specs::Calls::setpoint_words))]
 pub fn write_setpoint(
     b: Board,
     setpoints: &mut [u32],
@@ -54,6 +57,7 @@ pub fn write_setpoint(
 }
 
 // The named channel armed (`on`) or disarmed.
+#[tactic(auto, unfolding(crate::specs::Calls::set_armed, crate::specs::Calls::arm_answer))]
 fn set_armed(b: Board, number: u32, on: bool) -> Written
     ensures { (result.board ≡ set_armed b number on) × (outcome_of result.outcome ≡ arm_answer number) }
 {
@@ -84,6 +88,7 @@ pub fn disarm(b: Board, number: u32) -> Written
 }
 
 // A reply to the named channel, stored in its part.
+#[tactic(auto, unfolding(crate::specs::Calls::reply_board, crate::specs::Calls::reply_answer, crate::specs::Calls::reply_words))]
 pub fn reply(b: Board, readbacks: &mut [u32], number: u32, frame: u64) -> Received
     ensures { (result.board ≡ reply_board b (length readbacks.old) number frame) × (receipt_of result.receipt ≡ reply_answer b (length readbacks.old) number frame) × (readbacks.new ≡ reply_words b readbacks.old number frame) }
 {
@@ -130,6 +135,7 @@ pub fn check_buffers(b: Board, number: u32, one: usize, two: usize) -> Verdict
 }
 
 // The retired part of the named channel, of the two buffers lent; empty where refused.
+#[tactic(auto, unfolding(crate::specs::Calls::retired_words))]
 pub fn retired<'a>(b: Board, number: u32, one: &'a [u32], two: &'a [u32]) -> &'a [u32]
     ensures { result.now ≡ part_of (retired_answer b number one.now two.now) }
 {
@@ -140,6 +146,7 @@ pub fn retired<'a>(b: Board, number: u32, one: &'a [u32], two: &'a [u32]) -> &'a
 }
 
 // The length of what `retired` gives, or the refusal.
+#[tactic(auto, unfolding(crate::specs::Calls::retired_length, crate::specs::Calls::retired_words, channel::specs::Calls::retired_length))]
 pub fn retired_length<'a>(b: Board, number: u32, one: &'a [u32], two: &'a [u32]) -> PartLength
     ensures { length_of result ≡ retired_length b number one.now two.now }
 {

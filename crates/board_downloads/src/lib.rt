@@ -1,4 +1,6 @@
 // A channel's download, by the channel's number: opened, and its portions.
+#![tactic(auto)]
+
 ghost use Rattle.std.specs.Prelude.{◌≡◌};
 ghost use Rattle.channel_core.specs.Answers.{part_of};
 ghost use Rattle.channel.specs.Answers.{length_of};
@@ -16,6 +18,7 @@ pub struct Opened {
 }
 
 // Lent nothing.
+#[tactic(auto, unfolding(crate::specs::Calls::opened_board, crate::specs::Calls::opening_answer))]
 pub fn open(b: Board, number: u32) -> Opened
     ensures { (result.board ≡ opened_board b number) × (length_of result.length ≡ opening_answer b number) }
 {
@@ -36,6 +39,7 @@ pub fn open(b: Board, number: u32) -> Opened
 }
 
 // `size` words of the named channel's download, from `index` on, of the inactive one of the two buffers lent; empty where refused.
+#[tactic(auto, unfolding(crate::specs::Calls::portion_words))]
 pub fn portion<'a>(
     b: Board,
     number: u32,
@@ -53,6 +57,7 @@ pub fn portion<'a>(
 }
 
 // The length of what `portion` gives, or the refusal.
+#[tactic(auto, unfolding(crate::specs::Calls::portion_length, crate::specs::Calls::portion_words, channel::specs::Downloads::portion_length))]
 pub fn portion_length<'a>(
     b: Board,
     number: u32,

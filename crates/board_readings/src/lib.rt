@@ -1,4 +1,6 @@
 // The readings of a channel's last send, and what its last tick did, by the channel's number.
+#![tactic(auto)]
+
 ghost use Rattle.std.specs.Prelude.{◌≡◌};
 ghost use Rattle.board_readings.specs.Answers.{measurement_of, tick_report_of};
 ghost use Rattle.board_readings.specs.Calls.{readings_answer, last_tick_answer};
@@ -16,6 +18,7 @@ pub enum Measurement {
 }
 
 // Lent nothing. The board stays as it is.
+#[tactic(auto, unfolding(crate::specs::Calls::readings_answer))]
 pub fn last_readings(b: Board, number: u32) -> Measurement
     ensures { measurement_of result ≡ readings_answer b number }
 {
@@ -34,6 +37,7 @@ pub enum TickReport {
 }
 
 // Lent nothing. The board stays as it is.
+#[tactic(auto, unfolding(crate::specs::Calls::last_tick_answer))]
 pub fn last_tick(b: Board, number: u32) -> TickReport
     ensures { tick_report_of result ≡ last_tick_answer b number }
 {

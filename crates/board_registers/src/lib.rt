@@ -1,4 +1,6 @@
 // Register write and read on the board: the address names a channel, Main, or nothing. A crate of its own to keep each check short.
+#![tactic(auto)]
+
 ghost use Rattle.std.specs.Prelude.{◌≡◌, ◌*◌, ◌≤◌, length};
 ghost use Rattle.channel_core.specs.Answers.{outcome_of};
 ghost use Rattle.channel_registers.specs.Answers.{read_outcome_of};
@@ -62,6 +64,7 @@ fn write_main(b: Board, offset: u16, value: u16) -> Written
     }
 }
 
+#[tactic(auto, unfolding(crate::specs::Calls::write_board, crate::specs::Calls::write_answer, crate::specs::Calls::write_words))]
 pub fn write_register(b: Board, readbacks: &mut [u32], address: u32, value: u16) -> Written
     ensures { (result.board ≡ write_board b (length readbacks.old) address value) × (outcome_of result.outcome ≡ write_answer b (length readbacks.old) address value) × (readbacks.new ≡ write_words b readbacks.old address value) }
 {
@@ -112,6 +115,7 @@ fn read_channel(b: Board, number: u8, offset: u16) -> Read
     }
 }
 
+#[tactic(auto, unfolding(crate::specs::Calls::read_board, crate::specs::Calls::read_answer))]
 pub fn read_register(b: Board, address: u32) -> Read
     ensures { (result.board ≡ read_board b address) × (read_outcome_of result.outcome ≡ read_answer b address) }
 {

@@ -1,4 +1,6 @@
 // The board's state: depths, current user, Main registers and four channels. It holds no rule of what a channel does.
+#![tactic(auto)]
+
 ghost use Rattle.std.specs.Prelude.{◌≡◌, ◌*◌};
 ghost use Rattle.channel.specs.Calls.{main_bit};
 ghost use Rattle.board_state.specs.Parts.{part_start};
@@ -42,6 +44,7 @@ pub fn part_start(number: u8, depth: u32, words: u8) -> usize
 }
 
 // A Main status: D11 is 1, D10-D8 the user less 1, D7-D4 channels 4-1, D3 an event came.
+#[tactic(auto, unfolding(crate::specs::Main::main_word))]
 fn main_word(user: u8, first: bool, second: bool, third: bool, fourth: bool, event: bool) -> u16
     ensures { result ≡ main_word user first second third fourth event }
 {
@@ -56,6 +59,7 @@ fn main_bit(named: Channel, polling: bool) -> bool
     channel::take_main(named, polling).bit
 }
 
+#[tactic(auto, unfolding(crate::specs::Main::main_stored))]
 fn main_stored(main: Main, offset: u16, value: u16) -> Main
     ensures { result ≡ main_stored main offset value }
 {
@@ -77,6 +81,7 @@ fn main_stored(main: Main, offset: u16, value: u16) -> Main
 
 impl Board {
     // A board as it is opened at these depths.
+    #[tactic(auto, unfolding(crate::specs::State::opened))]
     pub fn opened(n: u32, m: u32) -> Board
         ensures { result ≡ opened n m }
     {
@@ -140,6 +145,7 @@ impl Board {
     }
 
     // Main's Interrupt Status, or its Polling Status.
+    #[tactic(auto, unfolding(crate::specs::Main::main_status))]
     fn main_status(self, polling: bool) -> u16
         ensures { result ≡ main_status self polling }
     {
@@ -155,6 +161,7 @@ impl Board {
     }
 
     // A channel's bit of a Main status cleared.
+    #[tactic(auto, unfolding(crate::specs::Main::taken_at))]
     fn taken(self, number: u8, polling: bool) -> Board
         ensures { result ≡ taken_at self number polling }
     {
@@ -164,6 +171,7 @@ impl Board {
     }
 
     // A Main status read: D7-D3 of that copy clear.
+    #[tactic(auto, unfolding(crate::specs::Main::status_read, crate::specs::Main::taken_at))]
     fn status_read(self, polling: bool) -> Board
         ensures { result ≡ status_read self polling }
     {
@@ -184,6 +192,7 @@ impl Board {
     }
 
     // A write to Level, Vector or Enable.
+    #[tactic(auto, unfolding(crate::specs::Main::main_written))]
     pub fn main_written(self, offset: u16, value: u16) -> Board
         ensures { result ≡ main_written self offset value }
     {
@@ -194,6 +203,7 @@ impl Board {
     }
 
     // What a read of a Main register shows.
+    #[tactic(auto, unfolding(crate::specs::Main::main_value))]
     pub fn main_value(self, offset: u16) -> u16
         ensures { result ≡ main_value self offset }
     {
@@ -211,6 +221,7 @@ impl Board {
     }
 
     // The board after a read of a Main register.
+    #[tactic(auto, unfolding(crate::specs::Main::main_read))]
     pub fn main_read(self, offset: u16) -> Board
         ensures { result ≡ main_read self offset }
     {
@@ -235,6 +246,7 @@ impl Board {
     }
 
     // Level, if a channel's interrupt is set and enabled.
+    #[tactic(auto, unfolding(crate::specs::Main::level_of))]
     pub fn interrupt_level(self) -> u8
         ensures { result ≡ level_of self }
     {

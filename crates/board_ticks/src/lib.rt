@@ -1,4 +1,6 @@
 // Ticks in a row of the board, nothing else happening meanwhile: each channel by itself, and the board put together once.
+#![tactic(auto)]
+
 ghost use Rattle.std.specs.Prelude.{◌≡◌, ◌*◌, ◌≤◌, length};
 ghost use Rattle.channel_ticks.specs.Quiet.{channel_quiet_ticks};
 ghost use Rattle.channel_ticks.specs.Ticks.{ticks_of, frames_in, frames_at};
@@ -57,6 +59,7 @@ fn count_channel(
 }
 
 // So many ticks.
+#[tactic(auto, unfolding(crate::specs::Ticks::ticks_board, crate::specs::Ticks::ticks_refused, crate::specs::Ticks::ticks_frames, crate::specs::Ticks::channel_ticks, crate::specs::Ticks::channel_frames))]
 pub fn ticks(b: Board, setpoints: &[u32], count: u32) -> Advanced
     ensures { (result.board ≡ ticks_board b setpoints.now count) × (result.refused ≡ ticks_refused b setpoints.now count) × (result.first ≡ ticks_frames b setpoints.now 1 count) × (result.second ≡ ticks_frames b setpoints.now 2 count) × (result.third ≡ ticks_frames b setpoints.now 3 count) × (result.fourth ≡ ticks_frames b setpoints.now 4 count) }
 {
@@ -95,6 +98,7 @@ pub fn ticks(b: Board, setpoints: &[u32], count: u32) -> Advanced
 }
 
 // The frames of channel 1 to 4 in the next so many ticks: that of tick k at k - 1, as far as the slice reaches. The board stays as it is.
+#[tactic(auto, unfolding(crate::specs::Ticks::ticks_frames_at, crate::specs::Ticks::channel_frames_at))]
 pub fn frames(b: Board, setpoints: &[u32], number: u32, count: u32, captured: &mut [u64])
     ensures { captured.new ≡ ticks_frames_at b setpoints.now number count captured.old }
 {
@@ -123,6 +127,7 @@ fn channel_quiet(b: Board, number: u8) -> u64
     quiet::channel_quiet_ticks(b.channel(number))
 }
 
+#[tactic(auto, unfolding(crate::specs::Ticks::quiet_ticks))]
 pub fn quiet_ticks(b: Board) -> u64
     ensures { result ≡ quiet_ticks b }
 {

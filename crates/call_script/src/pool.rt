@@ -55,6 +55,7 @@ pub fn copy(from: &[u32], to: &mut [u32]) {
 }
 
 // One step of xorshift32.
+#[tactic(auto, unfolding(crate::specs::Pool::left13, crate::specs::Pool::right17, crate::specs::Pool::left5, crate::specs::Pool::xorshift))]
 fn xorshifted(seed: u32) -> u32
     ensures { result ≡ xorshift seed }
 {
@@ -93,6 +94,7 @@ pub fn fill(setpoints: &mut [u32], readbacks: &mut [u32], seed: u32, mask: u32) 
 const OFFSET: u64 = 0xcbf2_9ce4_8422_2325;
 
 // A number times FNV's prime, 2^40 + 435, in 64 bits.
+#[tactic(auto, unfolding(crate::specs::Pool::times_prime))]
 fn times_prime(number: u64) -> u64
     ensures { result ≡ times_prime number }
 {
@@ -103,6 +105,7 @@ fn times_prime(number: u64) -> u64
 }
 
 // One step of FNV-1a.
+#[tactic(auto, unfolding(crate::specs::Pool::hashed))]
 fn hashed_byte(hash: u64, byte: u64) -> u64
     ensures { result ≡ hashed hash byte }
 {

@@ -38,6 +38,7 @@ pub struct Record {
 }
 
 // How many records a script of this length has, if it can be this long.
+#[tactic(auto, unfolding(crate::specs::Script::records_of))]
 pub fn records_of(size: usize) -> Records
     ensures { result ≡ records_of size }
 {
@@ -53,6 +54,7 @@ pub fn records_of(size: usize) -> Records
     Records::Count((size / SIZE - 1) as u16)
 }
 
+#[tactic(auto, unfolding(crate::specs::Script::header_of))]
 pub fn header_of(script: &[u8]) -> Header
     ensures { result ≡ header_of script.now }
 {
@@ -65,6 +67,7 @@ pub fn header_of(script: &[u8]) -> Header
 }
 
 // A record by its number from 1.
+#[tactic(auto, unfolding(crate::specs::Script::record_at))]
 pub fn record_at(script: &[u8], number: u16) -> Record
     ensures { result ≡ record_at script.now number }
 {

@@ -16,6 +16,7 @@ pub struct Opened {
     pub count: u32,
 }
 
+#[tactic(auto, unfolding(crate::specs::Downloads::download_opened))]
 pub fn open(c: Channel) -> Opened
     ensures { (result.channel ≡ download_opened c) × (result.count ≡ c.readbacks.retired) }
 {
@@ -44,6 +45,7 @@ fn check(c: Channel, m: u32, index: u32, size: u32, one: usize, two: usize) -> V
 }
 
 // `size` words of the download, from `index` on, of the inactive one of the two buffers lent; empty where refused.
+#[tactic(auto, unfolding(crate::specs::Downloads::portion_words))]
 pub fn portion<'a>(
     c: Channel,
     m: u32,
@@ -68,6 +70,7 @@ pub fn portion<'a>(
 }
 
 // The length of what `portion` gives, or the refusal.
+#[tactic(auto, unfolding(crate::specs::Downloads::portion_length))]
 pub fn portion_length<'a>(
     c: Channel,
     m: u32,

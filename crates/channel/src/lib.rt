@@ -1,5 +1,7 @@
 // The calls that name a channel, but the register calls and the reply, over the channel by value and its own part of the lent memory.
 // They know no board and no other channel.
+#![tactic(auto)]
+
 pub mod download;
 
 ghost use Rattle.std.specs.Prelude.{◌≡◌};
@@ -47,6 +49,7 @@ fn active_buffer(registers: Registers, user: u8) -> u32
 }
 
 // Whether a setpoint write is refused: the range, then the active buffer.
+#[tactic(auto, unfolding(crate::specs::Calls::setpoint_refusal))]
 fn setpoint_check(c: Channel, n: u32, user: u32, buffer: u32, index: u32) -> Verdict
     ensures { verdict_number result ≡ setpoint_refusal c n user buffer index }
 {
@@ -71,6 +74,7 @@ fn setpoint_check(c: Channel, n: u32, user: u32, buffer: u32, index: u32) -> Ver
 }
 
 // A setpoint stored in the channel's own words. The channel itself stays as it is.
+#[tactic(auto, unfolding(crate::specs::Calls::setpoint_answer, crate::specs::Calls::setpoint_words))]
 pub fn write_setpoint(
     c: Channel,
     words: &mut [u32],
@@ -94,6 +98,7 @@ pub fn write_setpoint(
 }
 
 // Armed (`on`) or disarmed.
+#[tactic(auto, unfolding(crate::specs::Calls::armed_of, crate::specs::Calls::disarmed_of))]
 pub fn set_armed(c: Channel, on: bool) -> Channel
     ensures { result ≡ set_armed c on }
 {
@@ -123,6 +128,7 @@ pub fn check_buffers(m: u32, one: usize, two: usize) -> Verdict
 }
 
 // The stored part of the inactive readback buffer; empty where the two buffers are not of the depth.
+#[tactic(auto, unfolding(crate::specs::Calls::retired_words))]
 pub fn retired<'a>(c: Channel, m: u32, one: &'a [u32], two: &'a [u32]) -> &'a [u32]
     ensures { result.now ≡ retired_words c m one.now two.now }
 {
@@ -139,6 +145,7 @@ pub fn retired<'a>(c: Channel, m: u32, one: &'a [u32], two: &'a [u32]) -> &'a [u
 }
 
 // The length of what `retired` gives, or the refusal.
+#[tactic(auto, unfolding(crate::specs::Calls::retired_length))]
 pub fn retired_length<'a>(c: Channel, m: u32, one: &'a [u32], two: &'a [u32]) -> PartLength
     ensures { length_of result ≡ retired_length c m one.now two.now }
 {
@@ -153,6 +160,7 @@ pub fn retired_length<'a>(c: Channel, m: u32, one: &'a [u32], two: &'a [u32]) ->
 }
 
 // The channel's bit in Main's Interrupt Status or Polling Status, which clears there.
+#[tactic(auto, unfolding(crate::specs::Calls::main_taken))]
 pub fn take_main(c: Channel, polling: bool) -> MainRead
     ensures { (result.channel ≡ main_taken c polling) × (result.bit ≡ main_bit c polling) }
 {

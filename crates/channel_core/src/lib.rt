@@ -1,5 +1,7 @@
 // A channel's life: Start, Group End, events and commands, user changes and ticks, over the channel's own part of the lent memory.
 // It knows no board and no other channel.
+#![tactic(auto)]
+
 mod ticks;
 
 ghost use Rattle.std.specs.Prelude.{◌≡◌, ◌%◌, get_or};
@@ -154,6 +156,7 @@ fn send_line(id: u8, commands: CommandFrames, sent: Transmission) -> Line
 }
 
 impl Channel {
+    #[tactic(auto, unfolding(crate::specs::State::opened))]
     pub fn opened() -> Channel
         ensures { result ≡ opened }
     {
@@ -170,6 +173,7 @@ impl Channel {
     }
 
     // Reset: as opened, but for the Main bits.
+    #[tactic(auto, unfolding(crate::specs::State::reset))]
     pub fn reset(self) -> Channel
         ensures { result ≡ reset self }
     {
@@ -187,6 +191,7 @@ impl Channel {
     }
 
     // Start, of an armed channel; from idle it latches RUN.
+    #[tactic(auto, unfolding(crate::specs::Behaviour::started))]
     fn started(self, delay: u32) -> Channel
         ensures { result ≡ started self delay }
     {
@@ -204,6 +209,7 @@ impl Channel {
     }
 
     // The current user changed to another.
+    #[tactic(auto, unfolding(crate::specs::Behaviour::user_changed))]
     pub fn user_changed(self) -> Channel
         ensures { result ≡ user_changed self }
     {
@@ -215,6 +221,7 @@ impl Channel {
         c
     }
 
+    #[tactic(auto, unfolding(crate::specs::Behaviour::group_ended))]
     fn group_ended(self) -> Channel
         ensures { result ≡ group_ended self }
     {
@@ -238,6 +245,7 @@ impl Channel {
     }
 
     // Group End, if it is asked for: the end word into the own words, then the rest.
+    #[tactic(auto, unfolding(crate::specs::Behaviour::ended_if, crate::specs::Behaviour::ended_words, crate::specs::Behaviour::group_words))]
     fn end_if(self, on: bool, words: &mut [u32], m: u32) -> Channel
         ensures { (result ≡ ended_if on self) × (words.new ≡ ended_words on self words.old m) }
     {
@@ -250,6 +258,7 @@ impl Channel {
         self
     }
 
+    #[tactic(auto, unfolding(crate::specs::Behaviour::started_if))]
     fn start_if(self, on: bool, delay: u32) -> Channel
         ensures { result ≡ started_if on self delay }
     {
@@ -259,6 +268,7 @@ impl Channel {
         self
     }
 
+    #[tactic(auto, unfolding(crate::specs::Behaviour::resumed_if))]
     fn resume_if(self, on: bool, pause: u8, delay: u32) -> Channel
         ensures { result ≡ resumed_if on self pause delay }
     {
@@ -271,6 +281,7 @@ impl Channel {
         self
     }
 
+    #[tactic(auto, unfolding(crate::specs::Behaviour::tagged_if))]
     fn tag_if(self, on: bool) -> Channel
         ensures { result ≡ tagged_if on self }
     {
@@ -284,6 +295,7 @@ impl Channel {
     }
 
     // Each Resume event that has this code.
+    #[tactic(auto, unfolding(crate::specs::Behaviour::resumed_on))]
     fn resume_on(self, registers: Registers, user: u8, code: u8) -> Channel
         ensures { result ≡ resumed_on registers self user code }
     {
@@ -294,6 +306,7 @@ impl Channel {
     }
 
     // An event: Group End, Start, Resume, Tag, as its registers say.
+    #[tactic(auto, unfolding(crate::specs::Behaviour::event_of, crate::specs::Behaviour::event_words))]
     pub fn event(self, words: &mut [u32], m: u32, user: u8, code: u8) -> Channel
         ensures { (result ≡ event_of self user code) × (words.new ≡ event_words self words.old m code) }
     {
@@ -307,6 +320,7 @@ impl Channel {
     }
 
     // A write to Commands: D2 Group End, D0 Start, D1 Resume of the VME pause, D3 Tag.
+    #[tactic(auto, unfolding(crate::specs::Behaviour::commanded, crate::specs::Behaviour::command_words))]
     pub fn command(self, words: &mut [u32], m: u32, value: u16) -> Channel
         ensures { (result ≡ commanded self value) × (words.new ≡ command_words self words.old m value) }
     {

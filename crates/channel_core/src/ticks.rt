@@ -19,6 +19,7 @@ fn is_frame(line: Line) -> bool
 
 impl Channel {
     // The word at the index due, of the current user's active buffer.
+    #[tactic(auto, unfolding(crate::specs::Behaviour::due_of))]
     fn due(self, setpoints: &[u32], n: u32, user: u8) -> u32
         ensures { result ≡ due_of self setpoints.now n user }
     {
@@ -56,6 +57,7 @@ impl Channel {
         }
     }
 
+    #[tactic(auto, unfolding(crate::specs::Behaviour::tick_of, crate::specs::Behaviour::tick_outcome_of, crate::specs::Behaviour::tick_answer))]
     pub fn tick(self, setpoints: &[u32], n: u32, user: u8) -> Ticked
         ensures { (result.channel ≡ tick_of self setpoints.now n user) × (line_of result.line ≡ tick_answer self setpoints.now n user) }
     {

@@ -1,4 +1,6 @@
 // The readings of a channel's last send: its ADC words in volts.
+#![tactic(auto)]
+
 ghost use Rattle.std.specs.Prelude.{◌≡◌};
 ghost use Rattle.channel_readings.specs.Answers.{adc_reading_of, readings_of};
 ghost use Rattle.channel_readings.specs.Measuring.{measured, readings_answer};
@@ -23,6 +25,7 @@ pub struct Readings {
     pub sixth: Reading,
 }
 
+#[tactic(auto, unfolding(crate::specs::Measuring::measured))]
 fn measured(word: AdcWord) -> Reading
     ensures { adc_reading_of result ≡ measured word }
 {
@@ -36,6 +39,7 @@ fn measured(word: AdcWord) -> Reading
 }
 
 // Those of the last send; the channel stays as it is.
+#[tactic(auto, unfolding(crate::specs::Measuring::readings_answer))]
 pub fn last_readings(c: Channel) -> Readings
     ensures { readings_of result ≡ readings_answer c }
 {

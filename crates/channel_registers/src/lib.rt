@@ -1,5 +1,7 @@
 // The register write and the register read of one channel, over the channel by value and its own part of the lent memory.
 // They know no board and no other channel.
+#![tactic(auto)]
+
 ghost use Rattle.std.specs.Prelude.{◌≡◌};
 ghost use Rattle.refusal.specs.Refusals.{verdict_number};
 ghost use Rattle.channel_core.specs.Answers.{outcome_of};
@@ -47,6 +49,7 @@ fn cannot_send(c: Channel, offset: u16, value: u16) -> bool
 }
 
 // Whether a write at an offset is refused: the access, then a function that is active, then the clock code.
+#[tactic(auto, unfolding(crate::specs::Calls::register_refusal))]
 fn write_check(c: Channel, offset: u16, value: u16) -> Verdict
     ensures { verdict_number result ≡ register_refusal c offset value }
 {
@@ -68,6 +71,7 @@ fn write_check(c: Channel, offset: u16, value: u16) -> Verdict
 }
 
 // What an accepted write does.
+#[tactic(auto, unfolding(crate::specs::Calls::register_effect, crate::specs::Calls::register_words))]
 fn write_effect(c: Channel, words: &mut [u32], m: u32, offset: u16, value: u16) -> Channel
     ensures { (result ≡ register_effect c offset value) × (words.new ≡ register_words c words.old m offset value) }
 {
@@ -98,6 +102,7 @@ fn write_effect(c: Channel, words: &mut [u32], m: u32, offset: u16, value: u16) 
     next
 }
 
+#[tactic(auto, unfolding(crate::specs::Calls::written_of, crate::specs::Calls::written_answer, crate::specs::Calls::written_words))]
 pub fn write_register(c: Channel, words: &mut [u32], m: u32, offset: u16, value: u16) -> Written
     ensures { (result.channel ≡ written_of c offset value) × (outcome_of result.outcome ≡ written_answer c offset value) × (words.new ≡ written_words c words.old m offset value) }
 {
@@ -115,6 +120,7 @@ pub fn write_register(c: Channel, words: &mut [u32], m: u32, offset: u16, value:
 }
 
 // What a read at an offset shows.
+#[tactic(auto, unfolding(crate::specs::Calls::read_value))]
 fn read_value(c: Channel, offset: u16) -> u16
     ensures { result ≡ read_value c offset }
 {
@@ -145,6 +151,7 @@ fn read_value(c: Channel, offset: u16) -> u16
 }
 
 // A status read clears that copy; a read of 0C clears the count of missing readbacks.
+#[tactic(auto, unfolding(crate::specs::Calls::read_effect))]
 fn read_effect(c: Channel, offset: u16) -> Channel
     ensures { result ≡ read_effect c offset }
 {
@@ -172,6 +179,7 @@ fn read_effect(c: Channel, offset: u16) -> Channel
     c
 }
 
+#[tactic(auto, unfolding(crate::specs::Calls::read_of, crate::specs::Calls::read_answer))]
 pub fn read_register(c: Channel, offset: u16) -> Read
     ensures { (result.channel ≡ read_of c offset) × (read_outcome_of result.outcome ≡ read_answer c offset) }
 {

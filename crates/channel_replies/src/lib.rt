@@ -1,4 +1,6 @@
 // A reply of one channel: what becomes of it, the word stored for it, and its answer, over the channel by value and its own part of the lent memory.
+#![tactic(auto)]
+
 ghost use Rattle.std.specs.Prelude.{◌≡◌, not};
 ghost use Rattle.adc_words.specs.Positions.{adc_word};
 ghost use Rattle.readback.specs.Storing.{stored_word};
@@ -39,6 +41,7 @@ fn crc_checked(status: Status, right: bool) -> Status
 }
 
 // What becomes of a well-framed reply now that no command frame takes.
+#[tactic(auto, unfolding(crate::specs::Replying::disposition_now))]
 fn disposition(c: Channel, m: u32) -> Disposition
     ensures { result ≡ disposition_now c m }
 {
@@ -126,6 +129,7 @@ fn command_reply(c: Channel, id: u8, data: u16, right: bool) -> Channel
 }
 
 // A reply from the supply: to a command frame, as long as that takes it, else to a setpoint.
+#[tactic(auto, unfolding(crate::specs::Replying::reply_of, crate::specs::Replying::reply_answer, crate::specs::Replying::reply_words))]
 pub fn reply(c: Channel, words: &mut [u32], m: u32, user: u8, frame: u64) -> Received
     ensures { (result.channel ≡ reply_of c m frame) × (receipt_of result.receipt ≡ reply_answer c m frame) × (words.new ≡ reply_words c words.old m user frame) }
 {

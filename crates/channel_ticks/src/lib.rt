@@ -1,4 +1,6 @@
 // Ticks in a row of one channel, nothing else happening meanwhile: those that only count down are taken at once, so that they cost its sends.
+#![tactic(auto)]
+
 pub mod quiet;
 
 ghost use Rattle.std.specs.Prelude.{◌≡◌, ◌+◌, ◌<◌, ◌≤◌, ◌%◌, set, false};
@@ -104,6 +106,7 @@ fn condition_after(sent: Transmission, before: u8) -> u8
 }
 
 // One tick, its frame put at its place.
+#[tactic(auto, unfolding(tick_outcome::specs::Outcomes::outcome))]
 fn tick(
     progress: Progress,
     due: u32,
@@ -240,6 +243,7 @@ fn sent_if(c: Channel, frames: u32, count: u32) -> Channel
 }
 
 // So many ticks over the channel's own setpoints, their frames captured: that of tick k at k - 1, as far as the slice reaches.
+#[tactic(auto, unfolding(crate::specs::Ticks::ticks_of, crate::specs::Ticks::frames_in, crate::specs::Ticks::frames_at))]
 pub fn ticks(
     c: Channel,
     setpoints: &[u32],

@@ -27,6 +27,7 @@ pub fn least(one: u64, other: u64) -> u64
 }
 
 // How many of the next ticks only count down, at the least.
+#[tactic(auto, unfolding(crate::specs::Quiet::quiet_ticks))]
 pub fn quiet_ticks(sequencer: Sequencer) -> u64
     ensures { result ≡ quiet_ticks sequencer }
 {
@@ -49,6 +50,7 @@ pub fn quiet_ticks(sequencer: Sequencer) -> u64
 }
 
 // The same of a channel: a tick with a command frame is not quiet.
+#[tactic(auto, unfolding(crate::specs::Quiet::channel_quiet_ticks))]
 pub fn channel_quiet_ticks(c: Channel) -> u64
     ensures { result ≡ channel_quiet_ticks c }
 {
@@ -71,6 +73,7 @@ fn left_lowered(sequencer: Sequencer, ticks: u64) -> Sequencer
 }
 
 // The state so many quiet ticks later.
+#[tactic(auto, unfolding(crate::specs::Quiet::after_quiet))]
 pub fn after_quiet(sequencer: Sequencer, ticks: u64) -> Sequencer
     ensures { result ≡ after_quiet sequencer ticks }
 {

@@ -1,4 +1,6 @@
 // Opening with rights, and the shared calls by role: tick, event, user change and the interrupt level. What is lent, whether the role may, then the board's own call.
+#![tactic(auto)]
+
 ghost use Rattle.std.specs.Prelude.{◌≡◌, length};
 ghost use Rattle.channel_core.specs.Answers.{line_of, outcome_of};
 ghost use Rattle.permissions.specs.Rights.{rights_at};
@@ -61,6 +63,7 @@ fn shown_frames(rights: BoardRights, role: Role, frames: Frames) -> Frames
 }
 
 // A frame that is not shown is sent all the same.
+#[tactic(auto, unfolding(access_control::specs::Guarding::guard_refusal, isolation::specs::Calls::answer, isolation::specs::Calls::after))]
 pub fn tick(g: GuardedBoard, role: Role, setpoints: &[u32]) -> Ticked
     ensures { (result.board ≡ board_after g role call.tick (words setpoints.now)) × (frames_of result.frames ≡ answer_to g role call.tick (words setpoints.now)) }
 {
@@ -88,6 +91,7 @@ pub fn tick(g: GuardedBoard, role: Role, setpoints: &[u32]) -> Ticked
     }
 }
 
+#[tactic(auto, unfolding(access_control::specs::Guarding::guard_refusal, isolation::specs::Calls::answer, isolation::specs::Calls::after, isolation::specs::Calls::words_after))]
 pub fn event(g: GuardedBoard, role: Role, readbacks: &mut [u32], code: u8) -> Written
     ensures { (result.board ≡ board_after g role (call.event code) (words readbacks.old)) × (one (outcome_of result.outcome) ≡ answer_to g role (call.event code) (words readbacks.old)) × (readbacks.new ≡ memory_after g role (call.event code) readbacks.old) }
 {
@@ -107,6 +111,7 @@ pub fn event(g: GuardedBoard, role: Role, readbacks: &mut [u32], code: u8) -> Wr
     }
 }
 
+#[tactic(auto, unfolding(access_control::specs::Guarding::guard_refusal, isolation::specs::Calls::answer, isolation::specs::Calls::after))]
 pub fn change_user(g: GuardedBoard, role: Role, user: u32) -> Written
     ensures { (result.board ≡ board_after g role (call.change_user user) none) × (one (outcome_of result.outcome) ≡ answer_to g role (call.change_user user) none) }
 {
@@ -126,6 +131,7 @@ pub fn change_user(g: GuardedBoard, role: Role, user: u32) -> Written
 }
 
 // The board stays as it is.
+#[tactic(auto, unfolding(access_control::specs::Guarding::guard_refusal, isolation::specs::Calls::answer))]
 pub fn interrupt_level(g: GuardedBoard, role: Role) -> InterruptLevel
     ensures { one (level_answer_of result) ≡ answer_to g role call.interrupt_level none }
 {

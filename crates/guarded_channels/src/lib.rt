@@ -1,4 +1,6 @@
 // The calls that change a channel by its number, by role: setpoint write, arm, disarm and reply. What is lent, the number, whether the role may write, then the board's own call.
+#![tactic(auto)]
+
 ghost use Rattle.std.specs.Prelude.{◌≡◌, cond, not};
 ghost use Rattle.refusal.specs.Refusals.{verdict_number};
 ghost use Rattle.channel_core.specs.Answers.{outcome_of};
@@ -34,6 +36,7 @@ fn check_writing(verdict: Verdict, rights: BoardRights, role: Role, number: u32)
 }
 
 // The board stays as it is.
+#[tactic(auto, unfolding(access_control::specs::Guarding::guard_refusal, isolation::specs::Calls::answer, isolation::specs::Calls::words_after))]
 pub fn write_setpoint(
     g: GuardedBoard,
     role: Role,
@@ -58,6 +61,7 @@ pub fn write_setpoint(
     }
 }
 
+#[tactic(auto, unfolding(access_control::specs::Guarding::guard_refusal, isolation::specs::Calls::answer, isolation::specs::Calls::after))]
 pub fn arm(g: GuardedBoard, role: Role, number: u32) -> Written
     ensures { (result.board ≡ board_after g role (call.arm number) none) × (one (outcome_of result.outcome) ≡ answer_to g role (call.arm number) none) }
 {
@@ -73,6 +77,7 @@ pub fn arm(g: GuardedBoard, role: Role, number: u32) -> Written
     }
 }
 
+#[tactic(auto, unfolding(access_control::specs::Guarding::guard_refusal, isolation::specs::Calls::answer, isolation::specs::Calls::after))]
 pub fn disarm(g: GuardedBoard, role: Role, number: u32) -> Written
     ensures { (result.board ≡ board_after g role (call.disarm number) none) × (one (outcome_of result.outcome) ≡ answer_to g role (call.disarm number) none) }
 {
@@ -91,6 +96,7 @@ pub fn disarm(g: GuardedBoard, role: Role, number: u32) -> Written
     }
 }
 
+#[tactic(auto, unfolding(access_control::specs::Guarding::guard_refusal, isolation::specs::Calls::answer, isolation::specs::Calls::after, isolation::specs::Calls::words_after))]
 pub fn reply(
     g: GuardedBoard,
     role: Role,

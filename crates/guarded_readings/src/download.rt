@@ -18,6 +18,7 @@ pub struct Opened {
     pub length: PartLength,
 }
 
+#[tactic(auto, unfolding(access_control::specs::Guarding::guard_refusal, isolation::specs::Calls::answer, isolation::specs::Calls::after))]
 pub fn open(g: GuardedBoard, role: Role, number: u32) -> Opened
     ensures { (result.board ≡ board_after g role (open_download number) none) × (answers.one (length_of result.length) ≡ answer_to g role (open_download number) none) }
 {
@@ -48,6 +49,7 @@ pub fn open(g: GuardedBoard, role: Role, number: u32) -> Opened
 }
 
 // `size` words of the named channel's download, from `index` on; empty where refused.
+#[tactic(auto, unfolding(isolation::specs::Calls::answer))]
 pub fn portion<'a>(
     g: GuardedBoard,
     role: Role,
@@ -67,6 +69,7 @@ pub fn portion<'a>(
 }
 
 // The length of what `portion` gives, or the refusal.
+#[tactic(auto, unfolding(access_control::specs::Guarding::guard_refusal, isolation::specs::Calls::answer))]
 pub fn portion_length<'a>(
     g: GuardedBoard,
     role: Role,

@@ -1,4 +1,6 @@
 // The calls that read of a channel by its number, by role: retired readbacks, the readings of the last send, what the last tick did, and downloads. What is lent, the number, whether the role may read, then the board's own call; a part is empty where any of these refuses it, so there the right alone is asked.
+#![tactic(auto)]
+
 pub mod download;
 
 ghost use Rattle.std.specs.Prelude.{◌≡◌};
@@ -16,6 +18,7 @@ use permissions::Role;
 use refusal::Verdict;
 
 // The retired part of the named channel, of the two buffers lent; empty where refused.
+#[tactic(auto, unfolding(isolation::specs::Calls::answer))]
 pub fn retired<'a>(
     g: GuardedBoard,
     role: Role,
@@ -33,6 +36,7 @@ pub fn retired<'a>(
 }
 
 // The length of what `retired` gives, or the refusal.
+#[tactic(auto, unfolding(access_control::specs::Guarding::guard_refusal, isolation::specs::Calls::answer))]
 pub fn retired_length<'a>(
     g: GuardedBoard,
     role: Role,
@@ -55,6 +59,7 @@ pub fn retired_length<'a>(
 }
 
 // The readings of the named channel's last send.
+#[tactic(auto, unfolding(access_control::specs::Guarding::guard_refusal, isolation::specs::Calls::answer))]
 pub fn last_readings(g: GuardedBoard, role: Role, number: u32) -> Measurement
     ensures { answers.one (measurement_of result) ≡ answer_to g role (query number which.readings) none }
 {
@@ -71,6 +76,7 @@ pub fn last_readings(g: GuardedBoard, role: Role, number: u32) -> Measurement
 }
 
 // What the named channel's last tick did.
+#[tactic(auto, unfolding(access_control::specs::Guarding::guard_refusal, isolation::specs::Calls::answer))]
 pub fn last_tick(g: GuardedBoard, role: Role, number: u32) -> TickReport
     ensures { answers.one (tick_report_of result) ≡ answer_to g role (query number which.last_tick) none }
 {

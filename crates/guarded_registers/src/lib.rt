@@ -1,4 +1,6 @@
 // Register write and read by role: what is lent, what the address names, whether the role may, then the board's own call.
+#![tactic(auto)]
+
 ghost use Rattle.std.specs.Prelude.{◌≡◌, not};
 ghost use Rattle.address_map.specs.Addresses.{named_of};
 ghost use Rattle.channel_core.specs.Answers.{outcome_of};
@@ -42,6 +44,7 @@ fn may_read(rights: BoardRights, role: Role, region: Region) -> bool
     }
 }
 
+#[tactic(auto, unfolding(access_control::specs::Guarding::guard_refusal, isolation::specs::Calls::answer, isolation::specs::Calls::after, isolation::specs::Calls::words_after))]
 pub fn write_register(
     g: GuardedBoard,
     role: Role,
@@ -71,6 +74,7 @@ pub fn write_register(
     }
 }
 
+#[tactic(auto, unfolding(access_control::specs::Guarding::guard_refusal, isolation::specs::Calls::answer, isolation::specs::Calls::after))]
 pub fn read_register(g: GuardedBoard, role: Role, address: u32) -> Read
     ensures { (result.board ≡ board_after g role (read_register address) none) × (one (read_outcome_of result.outcome) ≡ answer_to g role (read_register address) none) }
 {

@@ -1,4 +1,6 @@
 // The log line of a run, as ASCII bytes in a buffer that the caller lends.
+#![tactic(auto)]
+
 ghost use Rattle.std.specs.Prelude.{◌≡◌, [], ◌∷◌, ◌++◌, ◌+◌, ◌≤◌, ◌<◌, length, take};
 ghost use Rattle.tally.specs.Answers.{ran_of};
 ghost use Rattle.log_line.specs.Lines.{digit, high, low, decimal, frame_counts, log_line, Fills};
@@ -25,6 +27,7 @@ fn put_digit(out: &mut [u8], at: usize, power: u32, number: u32) -> usize
 }
 
 // The digits from 10^9 down to 10^5, then those from 10^4 down.
+#[tactic(auto, unfolding(crate::specs::Lines::high))]
 fn put_high(out: &mut [u8], at: usize, number: u32) -> usize
     requires { at + 5 ≤ length out.old }
     ensures { (at ≤ result) × (result ≤ at + 5) × (take result out.new ≡ take at out.old ++ high number) }
@@ -36,6 +39,7 @@ fn put_high(out: &mut [u8], at: usize, number: u32) -> usize
     put_digit(out, fourth, 100000, number)
 }
 
+#[tactic(auto, unfolding(crate::specs::Lines::low))]
 fn put_low(out: &mut [u8], at: usize, number: u32) -> usize
     requires { at + 5 ≤ length out.old }
     ensures { (at ≤ result) × (result ≤ at + 5) × (take result out.new ≡ take at out.old ++ low number) }
@@ -47,6 +51,7 @@ fn put_low(out: &mut [u8], at: usize, number: u32) -> usize
     put(out, fourth, 48 + (number % 10) as u8)
 }
 
+#[tactic(auto, unfolding(crate::specs::Lines::decimal))]
 fn put_number(out: &mut [u8], at: usize, number: u32) -> usize
     requires { at + 10 ≤ length out.old }
     ensures { (at ≤ result) × (result ≤ at + 10) × (take result out.new ≡ take at out.old ++ decimal number) }
@@ -68,6 +73,7 @@ fn put_text(out: &mut [u8], at: usize, text: &[u8]) -> usize
     place
 }
 
+#[tactic(auto, unfolding(crate::specs::Lines::frame_counts))]
 fn put_frames(out: &mut [u8], at: usize, counts: Counts) -> usize
     requires { at + 43 ≤ length out.old }
     ensures { (at ≤ result) × (result ≤ at + 43) × (take result out.new ≡ take at out.old ++ frame_counts counts) }
@@ -82,6 +88,7 @@ fn put_frames(out: &mut [u8], at: usize, counts: Counts) -> usize
 }
 
 // Writes the line, with no line end, and answers its length.
+#[tactic(auto, unfolding(crate::specs::Lines::log_line))]
 pub fn write_line(out: &mut [u8; 96], ran: Ran) -> usize
     ensures { Fills result out.new (log_line (ran_of ran)) }
 {

@@ -19,7 +19,6 @@ use Rattle.ramp.specs.Ramp.{zero_point, Segment, segment, segment_of, code_in, r
 use Rattle.ramp.specs.Rules.{CodesInRange, Rules}
 use Rattle.ramp.specs.Copying.{listed, WellFormed, Brackets}
 use Rattle.ramp.proofs.Range.{range_of}
-use Rattle.ramp.proofs.Words.{overwritten_length}
 use Rattle.ramp.proofs.Segments.{InSegment, Reached, found_next, reached_next, reached_last, bracketed, segment_at}
 use Rattle.ramp.proofs.Copies.{size_take, index_take, last_take}
 
@@ -58,9 +57,6 @@ module _ (l : Breakpoints) (cs ds : List ℕ) (whole : WellFormed l) (n : ℕ) (
       record { reached = record { more = omega arith; past = λ j a b. absurd (omega arith); end = omega arith }; far = omega arith; codes = refl; remainders = refl; fitting = λ j a b. absurd (omega arith) }
 
   module _ (cs' ds' : List ℕ) (k i : ℕ) (g : Going ps cs ds cs' ds' k i) where
-    pub k_small : k + 1 < 64
-    k_small = let h = g.reached.more in let f = rules.at_most in omega arith
-
     pub ends : last < i → i ≡ last_index ps + 1
     ends h = let f = g.far in let e = last_is in omega arith
 
@@ -70,20 +66,6 @@ module _ (l : Breakpoints) (cs ds : List ℕ) (whole : WellFormed l) (n : ℕ) (
         let e = ends h in
         let m = reached_last ps n (length cs) (length ds) rules k (subst (λ (x : ℕ). Reached ps k x) e g.reached) in
         range_of (code_at ps j) (g.fitting j (omega arith) (omega arith))
-
-    -- either buffer has a place for the word
-    in_words : (f : ℕ → ℕ) (old now : List ℕ) → now ≡ overwritten f i old → n ≤ length old → i ≤ last → i < length now
-    in_words f old now a c h =
-        let b = rules.last in
-        let e = last_is in
-        let m = ap length a ∙ overwritten_length f old i in
-        omega arith
-
-    pub in_codes : i ≤ last → i < length cs'
-    in_codes = in_words (code_word ps) cs cs' g.codes rules.codes
-
-    pub in_remainders : i ≤ last → i < length ds'
-    in_remainders = in_words (remainder_word ps) ds ds' g.remainders rules.remainders
 
     module _ (h : i ≤ last) (r : ℕ) (e : r ≡ cond (ltb (index_at xs (k + 1)) i) (k + 1) k) where
       found : InSegment ps r i
@@ -101,9 +83,6 @@ module _ (l : Breakpoints) (cs ds : List ℕ) (whole : WellFormed l) (n : ℕ) (
           go : (b : Bool) → cond b (k + 1) k ≤ k + 1
           go true = omega arith
           go false = omega arith
-
-      pub r_small : r + 1 < 64
-      r_small = let m = found.more in let f = rules.at_most in omega arith
 
       in_count : r + 1 < l.count
       in_count = let m = found.more in let z = size in omega arith

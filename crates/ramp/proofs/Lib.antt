@@ -9,7 +9,6 @@ pub mod Copies
 pub mod Words
 pub mod Filling
 pub mod Call
-pub mod Front
 pub mod Exact
 pub mod Laws
 pub mod Only

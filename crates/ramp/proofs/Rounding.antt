@@ -95,9 +95,6 @@ module _ (u v d w : ℕ) (D : d ≤ w) where
       let h : mean / w < high + 1 = (div-lt_iff_lt-mul W).1 (let m = mean_most high hu hv in let e = add-mul high 1 w in omega arith) in
       ((le-div_iff_mul-le W).1 (mean_least low lu lv), omega arith)
 
-  pub mean_fits : u < 65536 → v < 65536 → w ≤ 1048576 → (u * (w - d) < 18446744073709551616) × (v * d < 18446744073709551616) × (mean < 18446744073709551616)
-  mean_fits hu hv hw = let h = mean_most 65535 (omega arith) (omega arith) in (omega arith, omega arith, omega arith)
-
   pub mean_of : (s t : ℤ) → 0 < w → Diff s u 32768 → Diff t v 32768
       → Diff (s +ℤ floor_div ((t -ℤ s) *ℤ pos d) w) (mean / w) 32768 × (floor_mod ((t -ℤ s) *ℤ pos d) w ≡ mean % w)
   mean_of s t W hs ht =

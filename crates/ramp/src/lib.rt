@@ -1,4 +1,6 @@
 // Ramps from breakpoints: at every index up to the last a code, by linear interpolation, and the remainder of its division. Knows no board.
+#![tactic(auto)]
+
 ghost use Rattle.std.specs.Prelude.{◌≡◌, ℕ, ◌+◌, ◌-◌, ◌<◌, ◌≤◌, cond, ltb, eqb, ℤ, pos, ◌+ℤ◌, length, get_or, take};
 ghost use Rattle.ramp.specs.Answers.{wrote, count_of};
 ghost use Rattle.ramp.specs.Interpolation.{code_between, remainder_between, twos_complement};
@@ -241,6 +243,7 @@ fn fill(list: Breakpoints, codes: &mut [u32], remainders: &mut [u32]) -> u32
 }
 
 // The whole call, on a list by value.
+#[tactic(auto, unfolding(crate::specs::Ramp::ramp_answer, crate::specs::Ramp::ramp_codes, crate::specs::Ramp::ramp_remainders))]
 fn write_list(list: Breakpoints, n: u32, codes: &mut [u32], remainders: &mut [u32]) -> WordCount
     requires { WellFormed list }
     ensures { (count_of result ≡ ramp_answer (listed list) n (length codes.old) (length remainders.old)) × (codes.new ≡ ramp_codes (listed list) n codes.old remainders.old) × (remainders.new ≡ ramp_remainders (listed list) n codes.old remainders.old) × ((words : ℕ) → count_of result ≡ wrote words → CodesInRange (listed list)) }

@@ -1,4 +1,6 @@
 // The run file's reader, and what each of its records asks.
+#![tactic(auto)]
+
 ghost use Rattle.std.specs.Prelude.{◌≡◌};
 ghost use Rattle.records.specs.Files.{records_part, records_length};
 ghost use Rattle.records.specs.Answers.{bytes_of};
@@ -53,6 +55,7 @@ pub enum Request {
 }
 
 // The length of what `records` gives, or the refusal.
+#[tactic(auto, unfolding(crate::specs::Files::distance, crate::specs::Files::count, crate::specs::Files::records_length, crate::specs::Files::file_refusal))]
 pub fn records_length(file: &[u8]) -> RecordsLength
     ensures { bytes_of result ≡ records_length file.now }
 {
@@ -154,6 +157,7 @@ fn arm_request(number: u8, b: u32) -> Request
 }
 
 // What a record asks, by its kind, channel, a and b.
+#[tactic(auto, unfolding(crate::specs::Requests::asked_by))]
 fn decode_fields(kind: u8, number: u8, a: u16, b: u32) -> Request
     ensures { request_of result ≡ asked_by kind number a b }
 {
@@ -174,6 +178,7 @@ fn decode_fields(kind: u8, number: u8, a: u16, b: u32) -> Request
 }
 
 // What a record of 8 bytes asks.
+#[tactic(auto, unfolding(crate::specs::Requests::asked_of))]
 pub fn decode(bytes: &[u8]) -> Request
     ensures { request_of result ≡ asked_of bytes.now }
 {

@@ -1,4 +1,6 @@
 // What one record of a run file does: the board's own calls, and their answers counted.
+#![tactic(auto)]
+
 ghost use Rattle.std.specs.Prelude.{◌≡◌, length};
 ghost use Rattle.channel_core.specs.Answers.{outcome_of};
 ghost use Rattle.board.specs.Answers.{one};
@@ -161,6 +163,7 @@ fn bad(state: RunState) -> RunState
 }
 
 // What a record asks, done and counted.
+#[tactic(auto, unfolding(crate::specs::Worlds::after, crate::specs::Worlds::answers, tally::specs::Tallies::tallies))]
 pub fn apply(
     state: RunState,
     setpoints: &mut [u32],

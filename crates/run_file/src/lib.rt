@@ -1,4 +1,6 @@
 // The run of a file: its records' calls on a board of its own, into six counts, and the line that says them.
+#![tactic(auto)]
+
 ghost use Rattle.std.specs.Prelude.{◌≡◌, ◌+◌, ◌*◌, ◌/◌, ◌≤◌, length};
 ghost use Rattle.log_line.specs.Lines.{Fills};
 ghost use Rattle.tally.specs.Tallies.{tallies, stepped};
@@ -36,6 +38,7 @@ fn step(
 }
 
 // All records of the part, from a board and its memory.
+#[tactic(auto, unfolding(crate::specs::Runs::world_after, crate::specs::Runs::counts_after))]
 fn play(b: Board, part: &[u8], setpoints: &mut [u32], readbacks: &mut [u32]) -> RunState
     ensures { (world result.board setpoints.new readbacks.new ≡ world_after (world b setpoints.old readbacks.old) part.now (length part.now / 8)) × (result.counts ≡ counts_after (world b setpoints.old readbacks.old) part.now (length part.now / 8)) }
 {
@@ -53,6 +56,7 @@ fn play(b: Board, part: &[u8], setpoints: &mut [u32], readbacks: &mut [u32]) -> 
 }
 
 // The records run on a zeroed board of depths 16 and 64: that board after them, and the six counts.
+#[tactic(auto, unfolding(crate::specs::Runs::start))]
 pub fn run_records(part: &[u8]) -> RunState
     ensures { (result.board ≡ (world_after start part.now (length part.now / 8)).board) × (result.counts ≡ counts_after start part.now (length part.now / 8)) }
 {
@@ -79,6 +83,7 @@ pub fn run(file: &[u8]) -> Ran
 }
 
 // The line of a file's run, written with no line end; answers its length.
+#[tactic(auto, unfolding(crate::specs::Runs::run_line))]
 pub fn run_line(file: &[u8], out: &mut [u8; 96]) -> usize
     ensures { Fills result out.new (run_line file.now) }
 {

@@ -1,4 +1,6 @@
 // A call script's ramp (tests/CALLS.md, Records: kind 14). It names no board: its breakpoints are words of the readback pool, its buffers words of the setpoint pool.
+#![tactic(auto)]
+
 use call_script::pool;
 use call_script::pool::Span;
 use call_script::script::Record;

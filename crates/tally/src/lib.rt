@@ -1,4 +1,6 @@
 // What a run counts: steps, refusals and the frames of channels 1 to 4, drawn from the answers of the board's calls.
+#![tactic(auto)]
+
 ghost use Rattle.std.specs.Prelude.{◌≡◌};
 ghost use Rattle.channel_core.specs.Answers.{is_refusal, outcome_of};
 ghost use Rattle.channel_registers.specs.Answers.{read_outcome_of};
@@ -96,6 +98,7 @@ impl Counts {
     }
 
     // A record taken.
+    #[tactic(auto, unfolding(crate::specs::Tallies::stepped))]
     pub fn stepped(mut self) -> Self
         ensures { result ≡ Tallies·stepped self }
     {
@@ -104,6 +107,7 @@ impl Counts {
     }
 
     // The answer of a call counted: of one that has nothing to tell, of a read, of a reply.
+    #[tactic(auto, unfolding(crate::specs::Tallies::tally))]
     pub fn outcome(mut self, outcome: Outcome) -> Self
         ensures { result ≡ tally self (one (outcome_of outcome)) }
     {
@@ -111,6 +115,7 @@ impl Counts {
         self
     }
 
+    #[tactic(auto, unfolding(crate::specs::Tallies::tally))]
     pub fn read(mut self, outcome: ReadOutcome) -> Self
         ensures { result ≡ tally self (one (read_outcome_of outcome)) }
     {
@@ -118,6 +123,7 @@ impl Counts {
         self
     }
 
+    #[tactic(auto, unfolding(crate::specs::Tallies::tally))]
     pub fn reply(mut self, receipt: Receipt) -> Self
         ensures { result ≡ tally self (one (receipt_of receipt)) }
     {
@@ -126,6 +132,7 @@ impl Counts {
     }
 
     // The answers of ticks in a row: so many were refused, and so many frames of channels 1 to 4.
+    #[tactic(auto, unfolding(crate::specs::Tallies::tally_ticks))]
     pub fn ticks(mut self, refused: u32, first: u32, second: u32, third: u32, fourth: u32) -> Self
         ensures { result ≡ tally_ticks self refused first second third fourth }
     {

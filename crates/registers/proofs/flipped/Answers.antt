@@ -19,7 +19,7 @@ loop-i-preserved c =
       omega arith,
       rw add-one (
           elim c.if-switches-i.branch [
-            then-switches-i w ↦
+            | then-switches-i w ↦
                 w.switched-is ∙ ap (λ (a : List Bool). set a p.i (not (get_or a p.i false))) p.invariant.1
                 ∙ sym (flips_set s.active s.switches p.i w.if-switches-i.true)
             | else-switches-i w ↦ w.switched-is ∙ p.invariant.1 ∙ sym (flips_left s.active s.switches p.i w.if-switches-i.false)
