@@ -1,4 +1,3 @@
 pub mod QuietTicks
-pub mod Captures
 pub mod Once
 pub mod TicksInRow

@@ -1,5 +1,5 @@
 -- Document 01, 'A channel's life': ticks that only count down. How many of the next ticks certainly are so, whatever words, depth, periods
--- and Frame IDs they are handed, and the state after so many of them; `Quiet-next` of proofs/QuietTicks.antt says that single ticks give just this.
+-- and Frame IDs they are handed, and the state after so many of them; `quiet_next` of proofs/QuietTicks.antt says that single ticks give just this.
 use Rattle.std.specs.Prelude.{ℕ, ◌-◌, min, cond, leb}
 use Rattle.sequencer.specs.declared.Stage.{Stage}
 use Rattle.sequencer.specs.declared.Stage.TheVariants as stage

@@ -1,9 +1,8 @@
--- One more record is the definition's next; and how many records the part of an accepted file holds. Assumes nothing.
-use Prim.Native.Nat.{ℕ, ◌+◌, ◌*◌, ◌/◌}
+-- How many records the part of an accepted file holds, and what the run of a file answers. Assumes nothing.
+use Prim.Native.Nat.{ℕ, ◌*◌, ◌/◌}
 use mathlib.Core.Path.{◌≡◌, refl, ap}
 use mathlib.Core.Bool.{Bool, true, false, cond}
 use mathlib.Core.List.{List}
-use native.Mathlib.Numerals.{add-one}
 use native.Mathlib.Omega.{arith}
 use lib.ListN.{length, length-take, length-drop}
 use lib.Dec.{eqb}
@@ -11,22 +10,9 @@ use Rattle.channel_core.specs.Answers as ans
 use Rattle.channel.proofs.Cases.{clash}
 use Rattle.tally.specs.Answers.{counted, refused}
 use Rattle.tally.specs.declared.Counts.{Counts}
-use Rattle.tally.specs.Tallies.{tallies, stepped}
-use Rattle.board.specs.Worlds.{World}
-use Rattle.replay.specs.Worlds.{after, answers}
 use Rattle.records.specs.Files.{count, file_refusal, records_part, records_length}
 use Rattle.records.proofs.Trailers.{whole, accepted}
-use Rattle.run_file.specs.Runs.{start, asked_at, world_after, counts_after, run_of}
-
-pub turn_world : (o : World) (part : List ℕ) (k : ℕ) {w x : World} → w ≡ world_after o part k → x ≡ after w (asked_at part k)
-    → x ≡ world_after o part (k + 1)
-unfolding world_after
-turn_world o part k e f = rw add-one (simp (f, e))
-
-pub turn_counts : (o : World) (part : List ℕ) (k : ℕ) {w : World} {c d : Counts} → w ≡ world_after o part k
-    → c ≡ counts_after o part k → d ≡ stepped (tallies c (answers w (asked_at part k))) → d ≡ counts_after o part (k + 1)
-unfolding counts_after
-turn_counts o part k e f g = rw add-one (simp (g, f, e))
+use Rattle.run_file.specs.Runs.{start, counts_after, run_of}
 
 pub record_count : (file : List ℕ) → file_refusal file ≡ 0 → length (records_part file) / 8 ≡ count file
 unfolding records_part
