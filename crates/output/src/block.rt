@@ -2,7 +2,7 @@
 ghost use Rattle.std.specs.Prelude.{◌≡◌, [], ◌∷◌, ◌+◌, ◌≤◌, ◌<◌, length};
 ghost use Rattle.output.specs.Blocks.{count_of, with_count, settled, Counted, Prints, Flushed, FlushedIfFull};
 
-use libc::STDOUT_FILENO;
+use std::io::{Print, Stdout};
 
 // How many bytes a block gathers: over 400 frames, so that a write adds some nanoseconds to each.
 const ROOM: usize = 8192;
@@ -15,12 +15,14 @@ pub type Block = [u8; 8194];
 // The count of a closed block.
 const CLOSED: usize = 65535;
 
+#[tactic(auto, unfolding(crate::specs::Blocks::count_of))]
 pub fn empty() -> Block
     ensures { count_of result ≡ 0 }
 {
     [0; 8194]
 }
 
+#[tactic(auto, unfolding(crate::specs::Blocks::count_of))]
 fn count(block: &Block) -> usize
     ensures { Counted result block.now }
 {
@@ -28,6 +30,7 @@ fn count(block: &Block) -> usize
     bytes[8192] as usize * 256 + bytes[8193] as usize
 }
 
+#[tactic(auto, unfolding(crate::specs::Blocks::with_count))]
 fn set_count(block: &mut Block, count: usize)
     requires { count < 65536 }
     ensures { block.new ≡ with_count block.old count }
@@ -37,13 +40,14 @@ fn set_count(block: &mut Block, count: usize)
 }
 
 // Writes the first bytes, and says whether that went well.
-fn write(bytes: &[u8], count: usize) -> bool
+fn write(out: Stdout, bytes: &[u8], count: usize) -> bool
     requires { count ≤ length bytes.now }
 {
-    io::write_all(STDOUT_FILENO, &bytes[..count])
+    Print::write_all(&out, &bytes[..count]).is_ok()
 }
 
 // After a write: nothing is gathered any more, and if the write failed the block is closed.
+#[tactic(auto, unfolding(crate::specs::Blocks::settled))]
 fn settle(block: &mut Block, went_well: bool)
     ensures { block.new ≡ settled block.old went_well }
 {
@@ -55,29 +59,29 @@ fn settle(block: &mut Block, went_well: bool)
 }
 
 // Writes what is gathered. The last call of a program that prints.
-pub fn flush(block: &mut Block)
+pub fn flush(out: Stdout, block: &mut Block)
     ensures { Flushed block.old block.new }
 {
     let gathered = count(block);
     if gathered <= ROOM {
-        let went_well = write(block, gathered);
+        let went_well = write(out, block, gathered);
         settle(block, went_well);
     }
 }
 
 // Writes what is gathered, if the block is full.
-fn make_room(block: &mut Block)
+fn make_room(out: Stdout, block: &mut Block)
     ensures { FlushedIfFull block.old block.new }
 {
     if count(block) == ROOM {
-        flush(block);
+        flush(out, block);
     }
 }
 
-fn byte(block: &mut Block, byte: u8)
+fn byte(out: Stdout, block: &mut Block, byte: u8)
     ensures { Prints block.old block.new (byte ∷ []) }
 {
-    make_room(block);
+    make_room(out, block);
     let gathered = count(block);
     if gathered < ROOM {
         block[gathered] = byte;
@@ -86,12 +90,12 @@ fn byte(block: &mut Block, byte: u8)
 }
 
 // Bytes for which there may be no room: one by one.
-fn across(block: &mut Block, bytes: &[u8])
+fn across(out: Stdout, block: &mut Block, bytes: &[u8])
     ensures { Prints block.old block.new bytes.now }
 {
     let mut i: usize = 0;
     while i < bytes.len() {
-        byte(block, bytes[i]);
+        byte(out, block, bytes[i]);
         i += 1;
     }
 }
@@ -111,13 +115,13 @@ fn put(block: &mut Block, gathered: usize, bytes: &[u8])
 }
 
 // Prints these bytes.
-pub fn text(block: &mut Block, bytes: &[u8])
+pub fn text(out: Stdout, block: &mut Block, bytes: &[u8])
     ensures { Prints block.old block.new bytes.now }
 {
     let gathered = count(block);
     if gathered + bytes.len() <= ROOM {
         put(block, gathered, bytes);
     } else {
-        across(block, bytes);
+        across(out, block, bytes);
     }
 }

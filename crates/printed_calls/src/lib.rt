@@ -1,4 +1,6 @@
 // The calls by role, each with its answer printed: the words of tests/CALLS.md, Records, after the record's number.
+#![tactic(auto)]
+
 use access_control::{GuardedBoard, Written};
 use call_script::{lent, pool};
 use channel::PartLength;
@@ -9,52 +11,54 @@ use guarded_board::InterruptLevel;
 use output::Block;
 use permissions::{BoardRights, Role};
 use refusal::Refusal;
+use std::io::Stdout;
 
-pub fn ok(block: &mut Block) {
-    output::text(block, b" ok");
+pub fn ok(out: Stdout, block: &mut Block) {
+    output::text(out, block, b" ok");
 }
 
-pub fn refused(block: &mut Block, reason: Refusal) {
-    output::numbered(block, b" refused ", refusal::number(reason) as u64);
+pub fn refused(out: Stdout, block: &mut Block, reason: Refusal) {
+    output::numbered(out, block, b" refused ", refusal::number(reason) as u64);
 }
 
-fn outcome(block: &mut Block, answer: Outcome) {
+fn outcome(out: Stdout, block: &mut Block, answer: Outcome) {
     match answer {
-        Outcome::Done => ok(block),
-        Outcome::Refused(reason) => refused(block, reason),
+        Outcome::Done => ok(out, block),
+        Outcome::Refused(reason) => refused(out, block, reason),
     }
 }
 
-fn value(block: &mut Block, contents: u16) {
-    output::text(block, b" value ");
-    output::hex_value(block, contents);
+fn value(out: Stdout, block: &mut Block, contents: u16) {
+    output::text(out, block, b" value ");
+    output::hex_value(out, block, contents);
 }
 
-fn read_outcome(block: &mut Block, answer: ReadOutcome) {
+fn read_outcome(out: Stdout, block: &mut Block, answer: ReadOutcome) {
     match answer {
-        ReadOutcome::Value(contents) => value(block, contents),
-        ReadOutcome::Refused(reason) => refused(block, reason),
+        ReadOutcome::Value(contents) => value(out, block, contents),
+        ReadOutcome::Refused(reason) => refused(out, block, reason),
     }
 }
 
-fn receipt(block: &mut Block, answer: Receipt) {
+fn receipt(out: Stdout, block: &mut Block, answer: Receipt) {
     match answer {
-        Receipt::Kept => output::text(block, b" kept"),
-        Receipt::Lost => output::text(block, b" lost"),
-        Receipt::Unsolicited => output::text(block, b" unasked"),
-        Receipt::Refused(reason) => refused(block, reason),
+        Receipt::Kept => output::text(out, block, b" kept"),
+        Receipt::Lost => output::text(out, block, b" lost"),
+        Receipt::Unsolicited => output::text(out, block, b" unasked"),
+        Receipt::Refused(reason) => refused(out, block, reason),
     }
 }
 
 // Prints the outcome, and hands on the board after the call.
-fn done(block: &mut Block, written: Written) -> GuardedBoard {
+fn done(out: Stdout, block: &mut Block, written: Written) -> GuardedBoard {
     let board = written.board;
     let answer = written.outcome;
-    outcome(block, answer);
+    outcome(out, block, answer);
     board
 }
 
 pub fn open(
+    out: Stdout,
     block: &mut Block,
     n: u32,
     m: u32,
@@ -63,12 +67,14 @@ pub fn open(
     readbacks: &[u32],
 ) -> GuardedBoard {
     done(
+        out,
         block,
         guarded_board::open(n, m, rights, setpoints, readbacks),
     )
 }
 
 pub fn write_register(
+    out: Stdout,
     block: &mut Block,
     b: GuardedBoard,
     role: Role,
@@ -77,20 +83,28 @@ pub fn write_register(
     value: u16,
 ) -> GuardedBoard {
     done(
+        out,
         block,
         guarded_registers::write_register(b, role, readbacks, address, value),
     )
 }
 
-pub fn read_register(block: &mut Block, b: GuardedBoard, role: Role, address: u32) -> GuardedBoard {
+pub fn read_register(
+    out: Stdout,
+    block: &mut Block,
+    b: GuardedBoard,
+    role: Role,
+    address: u32,
+) -> GuardedBoard {
     let read = guarded_registers::read_register(b, role, address);
     let board = read.board;
     let answer = read.outcome;
-    read_outcome(block, answer);
+    read_outcome(out, block, answer);
     board
 }
 
 pub fn write_setpoint(
+    out: Stdout,
     block: &mut Block,
     b: GuardedBoard,
     role: Role,
@@ -102,21 +116,35 @@ pub fn write_setpoint(
     word: u32,
 ) -> GuardedBoard {
     outcome(
+        out,
         block,
         guarded_channels::write_setpoint(b, role, setpoints, number, user, buffer, index, word),
     );
     b
 }
 
-pub fn arm(block: &mut Block, b: GuardedBoard, role: Role, number: u32) -> GuardedBoard {
-    done(block, guarded_channels::arm(b, role, number))
+pub fn arm(
+    out: Stdout,
+    block: &mut Block,
+    b: GuardedBoard,
+    role: Role,
+    number: u32,
+) -> GuardedBoard {
+    done(out, block, guarded_channels::arm(b, role, number))
 }
 
-pub fn disarm(block: &mut Block, b: GuardedBoard, role: Role, number: u32) -> GuardedBoard {
-    done(block, guarded_channels::disarm(b, role, number))
+pub fn disarm(
+    out: Stdout,
+    block: &mut Block,
+    b: GuardedBoard,
+    role: Role,
+    number: u32,
+) -> GuardedBoard {
+    done(out, block, guarded_channels::disarm(b, role, number))
 }
 
 pub fn reply(
+    out: Stdout,
     block: &mut Block,
     b: GuardedBoard,
     role: Role,
@@ -127,37 +155,38 @@ pub fn reply(
     let received = guarded_channels::reply(b, role, readbacks, number, frame);
     let board = received.board;
     let answer = received.receipt;
-    receipt(block, answer);
+    receipt(out, block, answer);
     board
 }
 
 // A word of a part.
-fn word(block: &mut Block, word: u32) {
-    output::text(block, b" ");
-    output::hex_word(block, word);
+fn word(out: Stdout, block: &mut Block, word: u32) {
+    output::text(out, block, b" ");
+    output::hex_word(out, block, word);
 }
 
-fn words(block: &mut Block, part: &[u32]) {
+fn words(out: Stdout, block: &mut Block, part: &[u32]) {
     let mut i: usize = 0;
     while i < part.len() {
-        word(block, part[i]);
+        word(out, block, part[i]);
         i += 1;
     }
 }
 
-pub fn part(block: &mut Block, part: &[u32]) {
-    output::text(block, b" part");
-    words(block, part);
+pub fn part(out: Stdout, block: &mut Block, part: &[u32]) {
+    output::text(out, block, b" part");
+    words(out, block, part);
 }
 
-pub fn length(block: &mut Block, answer: PartLength) {
+pub fn length(out: Stdout, block: &mut Block, answer: PartLength) {
     match answer {
-        PartLength::Words(count) => output::numbered(block, b" length ", count as u64),
-        PartLength::Refused(reason) => refused(block, reason),
+        PartLength::Words(count) => output::numbered(out, block, b" length ", count as u64),
+        PartLength::Refused(reason) => refused(out, block, reason),
     }
 }
 
 pub fn retired<'a>(
+    out: Stdout,
     block: &mut Block,
     b: GuardedBoard,
     role: Role,
@@ -165,10 +194,15 @@ pub fn retired<'a>(
     one: &'a [u32],
     two: &'a [u32],
 ) {
-    part(block, guarded_readings::retired(b, role, number, one, two));
+    part(
+        out,
+        block,
+        guarded_readings::retired(b, role, number, one, two),
+    );
 }
 
 pub fn retired_length<'a>(
+    out: Stdout,
     block: &mut Block,
     b: GuardedBoard,
     role: Role,
@@ -177,49 +211,70 @@ pub fn retired_length<'a>(
     two: &'a [u32],
 ) {
     length(
+        out,
         block,
         guarded_readings::retired_length(b, role, number, one, two),
     );
 }
 
 // A channel's retired count, asked by the examiner with its own two buffers, after these words.
-fn retired_count(block: &mut Block, b: GuardedBoard, readbacks: &[u32], channel: u8, words: &[u8]) {
+fn retired_count(
+    out: Stdout,
+    block: &mut Block,
+    b: GuardedBoard,
+    readbacks: &[u32],
+    channel: u8,
+    words: &[u8],
+) {
     let board = b.board;
     let one = pool::part(readbacks, lent::first_buffer(0, board.m, channel));
     let two = pool::part(readbacks, lent::second_buffer(0, board.m, channel));
     let length = guarded_readings::retired_length(b, Role::Examiner, channel as u32, one, two);
     match length {
-        PartLength::Words(count) => output::numbered(block, words, count as u64),
+        PartLength::Words(count) => output::numbered(out, block, words, count as u64),
         PartLength::Refused(_) => {}
     }
 }
 
 // The retired counts of channels 1 to 4.
-pub fn retired_counts(block: &mut Block, b: GuardedBoard, readbacks: &[u32], words: &[u8]) {
-    retired_count(block, b, readbacks, 1, words);
-    retired_count(block, b, readbacks, 2, words);
-    retired_count(block, b, readbacks, 3, words);
-    retired_count(block, b, readbacks, 4, words);
+pub fn retired_counts(
+    out: Stdout,
+    block: &mut Block,
+    b: GuardedBoard,
+    readbacks: &[u32],
+    words: &[u8],
+) {
+    retired_count(out, block, b, readbacks, 1, words);
+    retired_count(out, block, b, readbacks, 2, words);
+    retired_count(out, block, b, readbacks, 3, words);
+    retired_count(out, block, b, readbacks, 4, words);
 }
 
 pub fn event(
+    out: Stdout,
     block: &mut Block,
     b: GuardedBoard,
     role: Role,
     readbacks: &mut [u32],
     code: u8,
 ) -> GuardedBoard {
-    done(block, guarded_board::event(b, role, readbacks, code))
+    done(out, block, guarded_board::event(b, role, readbacks, code))
 }
 
-pub fn change_user(block: &mut Block, b: GuardedBoard, role: Role, user: u32) -> GuardedBoard {
-    done(block, guarded_board::change_user(b, role, user))
+pub fn change_user(
+    out: Stdout,
+    block: &mut Block,
+    b: GuardedBoard,
+    role: Role,
+    user: u32,
+) -> GuardedBoard {
+    done(out, block, guarded_board::change_user(b, role, user))
 }
 
-pub fn interrupt_level(block: &mut Block, b: GuardedBoard, role: Role) {
+pub fn interrupt_level(out: Stdout, block: &mut Block, b: GuardedBoard, role: Role) {
     let answer = guarded_board::interrupt_level(b, role);
     match answer {
-        InterruptLevel::Level(level) => output::numbered(block, b" level ", level as u64),
-        InterruptLevel::Refused(reason) => refused(block, reason),
+        InterruptLevel::Level(level) => output::numbered(out, block, b" level ", level as u64),
+        InterruptLevel::Refused(reason) => refused(out, block, reason),
     }
 }

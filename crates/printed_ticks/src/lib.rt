@@ -1,4 +1,6 @@
 // Ticks in a row by role, each frame that it is shown printed with its tick and channel: the words of tests/CALLS.md, Records, kind 9.
+#![tactic(auto)]
+
 ghost use Rattle.std.specs.Prelude.{◌≡◌, ◌<◌, ◌≤◌};
 
 use access_control::GuardedBoard;
@@ -7,6 +9,7 @@ use channel_ticks::quiet::least;
 use output::Block;
 use permissions::{BoardRights, Role};
 use refusal::Verdict;
+use std::io::Stdout;
 
 // The frames of a channel in some ticks, each at the place of its tick; 0 is none, since every frame ends in two stop bits.
 type Captured = [u64; 128];
@@ -20,17 +23,18 @@ struct Shown {
     pub fourth: bool,
 }
 
-fn frame(block: &mut Block, tick: u64, channel: u64, frame: u64) {
+fn frame(out: Stdout, block: &mut Block, tick: u64, channel: u64, frame: u64) {
     if frame != 0 {
-        output::numbered(block, b" ", tick);
-        output::numbered(block, b":", channel);
-        output::text(block, b":");
-        output::hex_frame(block, frame);
+        output::numbered(out, block, b" ", tick);
+        output::numbered(out, block, b":", channel);
+        output::text(out, block, b":");
+        output::hex_frame(out, block, frame);
     }
 }
 
 // The frames of so many ticks after the first `before`, by tick, then by channel.
 fn by_tick(
+    out: Stdout,
     block: &mut Block,
     before: u32,
     count: u32,
@@ -44,10 +48,10 @@ fn by_tick(
     let mut i: usize = 0;
     while i < count as usize {
         let tick = before as u64 + i as u64 + 1;
-        frame(block, tick, 1, first[i]);
-        frame(block, tick, 2, second[i]);
-        frame(block, tick, 3, third[i]);
-        frame(block, tick, 4, fourth[i]);
+        frame(out, block, tick, 1, first[i]);
+        frame(out, block, tick, 2, second[i]);
+        frame(out, block, tick, 3, third[i]);
+        frame(out, block, tick, 4, fourth[i]);
         i += 1;
     }
 }
@@ -69,7 +73,15 @@ fn capture(
 }
 
 // The frames of the board's next so many ticks, which come after the first `before`, of the channels that are shown.
-fn frames(block: &mut Block, b: Board, shown: Shown, setpoints: &[u32], before: u32, count: u32)
+fn frames(
+    out: Stdout,
+    block: &mut Block,
+    b: Board,
+    shown: Shown,
+    setpoints: &[u32],
+    before: u32,
+    count: u32,
+)
     requires { count ≤ 128 }
 {
     let mut first = [0u64; 128];
@@ -80,7 +92,7 @@ fn frames(block: &mut Block, b: Board, shown: Shown, setpoints: &[u32], before: 
     capture(b, shown.second, setpoints, 2, count, &mut second);
     capture(b, shown.third, setpoints, 3, count, &mut third);
     capture(b, shown.fourth, setpoints, 4, count, &mut fourth);
-    by_tick(block, before, count, &first, &second, &third, &fourth);
+    by_tick(out, block, before, count, &first, &second, &third, &fourth);
 }
 
 // How many of so many ticks only count down.
@@ -111,14 +123,21 @@ fn after(b: Board, setpoints: &[u32], count: u32) -> Board {
 }
 
 // As many ticks, each with the frames that are shown. Those on which no channel acts are jumped over.
-fn each_tick(block: &mut Block, b: Board, shown: Shown, setpoints: &[u32], count: u32) -> Board {
+fn each_tick(
+    out: Stdout,
+    block: &mut Block,
+    b: Board,
+    shown: Shown,
+    setpoints: &[u32],
+    count: u32,
+) -> Board {
     let mut board = b;
     let mut before: u32 = 0;
     while before < count {
         let quiet = quiet_of(board, count - before);
         let batch = at_once(quiet, count - before);
         if quiet == 0 {
-            frames(block, board, shown, setpoints, before, batch);
+            frames(out, block, board, shown, setpoints, before, batch);
         }
         board = after(board, setpoints, batch);
         before += batch;
@@ -137,15 +156,23 @@ fn shown_to(rights: BoardRights, role: Role) -> Shown {
 }
 
 fn taken(
+    out: Stdout,
     block: &mut Block,
     g: GuardedBoard,
     role: Role,
     setpoints: &[u32],
     count: u32,
 ) -> GuardedBoard {
-    output::text(block, b" ticks");
+    output::text(out, block, b" ticks");
     let rights = g.rights;
-    let board = each_tick(block, g.board, shown_to(rights, role), setpoints, count);
+    let board = each_tick(
+        out,
+        block,
+        g.board,
+        shown_to(rights, role),
+        setpoints,
+        count,
+    );
     GuardedBoard {
         board: board,
         rights: rights,
@@ -163,6 +190,7 @@ fn check(g: GuardedBoard, role: Role, setpoints: &[u32]) -> Verdict {
 
 // As many ticks. All of them are refused or none is.
 pub fn ticks(
+    out: Stdout,
     block: &mut Block,
     g: GuardedBoard,
     role: Role,
@@ -170,13 +198,13 @@ pub fn ticks(
     count: u32,
 ) -> GuardedBoard {
     if count == 0 {
-        return taken(block, g, role, setpoints, 0);
+        return taken(out, block, g, role, setpoints, 0);
     }
     let verdict = check(g, role, setpoints);
     match verdict {
-        Verdict::Allowed => taken(block, g, role, setpoints, count),
+        Verdict::Allowed => taken(out, block, g, role, setpoints, count),
         Verdict::Refused(reason) => {
-            printed_calls::refused(block, reason);
+            printed_calls::refused(out, block, reason);
             g
         }
     }
