@@ -13,8 +13,8 @@ pub fn files(at: &Path, out: &mut Vec<PathBuf>) {
     entries.sort();
     for path in entries {
         if path.is_dir() {
-            // a crate's out/ is made by rt
-            if !path.ends_with("out") {
+            // crates/NAME/out is made by rt
+            if !(path.components().count() == 3 && path.ends_with("out")) {
                 files(&path, out);
             }
         } else {

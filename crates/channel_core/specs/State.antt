@@ -1,6 +1,6 @@
 -- Document 01, 'A channel's life': one channel's state, what is listed under "It holds ..", but for the depths, the current user and the words, which come with each call.
 --   "its registers"                          registers, and status.enable, status's two copies
---   "both Main bits"                         status .interrupt .main, status.polling.main
+--   "both Main bits"                         status.interrupt.main, status.polling.main
 --   armed, idle, ticks, index, word, last send, replies, last word went, setpoint count    sequencer (crate `sequencer`)
 --   "both stored readback counts"            readbacks (crate `readback`)
 -- Document 02, card 1: "A channel's solitary definition now has these registers."

@@ -33,7 +33,7 @@ pub record MissingRows : Type 0 where
   pub six : response (led_at 2 unanswered) (read_register 0x0c) ≡ value 6
   pub latched_02 : response (led_at 2 unanswered) (read_register 0x02) ≡ value 0xc010
   pub latched_04 : response (led_at 2 unanswered) (read_register 0x04) ≡ value 0xc010
-  -- 0C is read_only; a read clears the count, and not D4; a read of a status leaves the count
+  -- 0C is read-only; a read clears the count, and not D4; a read of a status leaves the count
   pub read_only : response (led_at 2 unanswered) (write_register 16 0x0c 0) ≡ refused 4
   pub cleared : response (led_at 2 (unanswered ++ (read_register 0x0c ∷ []))) (read_register 0x0c) ≡ value 0
   pub latched_still : response (led_at 2 (unanswered ++ (read_register 0x0c ∷ []))) (read_register 0x02) ≡ value 0xc010

@@ -3,8 +3,8 @@ use Rattle.refusal.specs.Refusals.{number_of}
 use Rattle.channel_core.specs.Answers.{Answer}
 use Rattle.channel_core.specs.Answers as ans
 use Rattle.guarded_board.specs.declared.InterruptLevel.{InterruptLevel}
-use Rattle.guarded_board.specs.declared.InterruptLevel.TheVariants as interrupt_level_lem
+use Rattle.guarded_board.specs.declared.InterruptLevel.TheVariants as interrupt_level
 
 abbrev pub level_answer_of : InterruptLevel → Answer
-level_answer_of (interrupt_level_lem.Level k) = ans.value k
-level_answer_of (interrupt_level_lem.Refused k) = ans.refused (number_of k)
+level_answer_of (interrupt_level.Level k) = ans.value k
+level_answer_of (interrupt_level.Refused k) = ans.refused (number_of k)

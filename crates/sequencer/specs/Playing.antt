@@ -6,7 +6,7 @@
 --   "the index due and the word it repeats"               index, word
 --   "the last send since idle (if any, and which of first, paused, last it was), the replies after it"   last
 --   "the setpoint count"                                  count
--- Document 02, card 2: "The channel record carries the Frame ID of its last setpoint send and this count."   last .id, missing
+-- Document 02, card 2: "The channel record carries the Frame ID of its last setpoint send and this count."   last.id, missing
 -- Card 6: "a tag not yet used"; "that send", the one that used it   tag; last.tagged
 use Rattle.std.specs.Prelude.{ℕ, ◌+◌, ◌-◌, min, Bool, true, false, cond, not, ◌&&◌, leb, ltb, eqb}
 use Rattle.sequencer.specs.Words.{at_end, kind_of, stage_after, index_after, condition_of, pauses, ends}

@@ -13,7 +13,7 @@ sends number (each a b c d) = is_frame (of_four number a b c d)
 abbrev pub more : Bool → ℕ → ℕ
 more test n = cond test (cond (ltb n 4294967295) (n + 1) n) n
 
--- so many more at once; `more_by` of proofs/TicksCounted.antt says that they are as many single ones
+-- so many more at once; `more_by_lem` of proofs/TicksCounted.antt says that they are as many single ones
 abbrev pub more_by : ℕ → ℕ → ℕ
 more_by k n = max n (min (n + k) 4294967295)
 

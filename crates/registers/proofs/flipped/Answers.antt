@@ -5,26 +5,14 @@ use native.Mathlib.Numerals.{add-one}
 use lib.ListN.{set}
 use lib.Seq.{take_all}
 use Rattle.registers.specs.Map.{flips}
-use Rattle.registers.proofs.Flips.{flips_none, flips_set, flips_left}
+use Rattle.registers.proofs.Flips.{flips_none, next_set, next_left}
 use Rattle.registers.proofs.flipped.Goals as goal
-use Rattle.registers.proofs.flipped.Goals.{then-switches-i, else-switches-i}
 
 pub loop-i-init : goal.loop-i-init
 loop-i-init c = (omega arith, sym (flips_none c.args.active))
 
 pub loop-i-preserved : goal.loop-i-preserved
-loop-i-preserved c =
-    let s = c.args in
-    let p = c.loop-i in (
-      omega arith,
-      rw add-one (
-          elim c.if-switches-i.branch [
-            | then-switches-i w ↦
-                w.switched-is ∙ ap (λ (a : List Bool). set a p.i (not (get_or a p.i false))) p.invariant.1
-                ∙ sym (flips_set s.active s.switches p.i w.if-switches-i.true)
-            | else-switches-i w ↦ w.switched-is ∙ p.invariant.1 ∙ sym (flips_left s.active s.switches p.i w.if-switches-i.false)
-          ]),
-    )
+loop-i-preserved c = grind (arith, next_set, next_left)
 
 pub returns : goal.returns
 returns c =
