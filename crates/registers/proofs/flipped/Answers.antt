@@ -1,8 +1,5 @@
 -- `registers::flipped` meets its contract: `switched` is the active buffers with the first `i` switches taken up. Assumes nothing.
-use Rattle.std.proofs.Common.{◌≡◌, ℕ, ◌≤◌, Bool, false, List, length, get_or, take, sym, ap, ◌∙◌, arith}
-use mathlib.Core.Bool.{not}
-use native.Mathlib.Numerals.{add-one}
-use lib.ListN.{set}
+use Rattle.std.proofs.Common.{◌≡◌, ℕ, ◌≤◌, length, take, sym, ap, ◌∙◌, arith}
 use lib.Seq.{take_all}
 use Rattle.registers.specs.Map.{flips}
 use Rattle.registers.proofs.Flips.{flips_none, next_set, next_left}
