@@ -5,6 +5,7 @@ use mathlib.Core.Bool.{Bool, true, false, cond}
 use lib.ListN.{length}
 use lib.Dec.{eqb}
 use Rattle.address_map.specs.Addresses.{Named, named, main, channel, nothing}
+use Rattle.std.specs.Prelude.{Option, Some, None}
 use Rattle.register_map.specs.declared.Access.{Access}
 use Rattle.register_map.specs.declared.Access.TheVariants as access
 use Rattle.register_map.specs.AccessRule.{channel_access, main_access}
@@ -37,17 +38,17 @@ Refuses k = eqb k 0 ≡ false
 
 -- ---- One channel
 
-unmapped_write : (a : Access) → Refuses (unmapped_refusal a) → write_refusal a ≡ unmapped_refusal a
-unmapped_write access.None h = refl
-unmapped_write access.ReadOnly h = clash (sym h)
-unmapped_write access.WriteOnly h = clash (sym h)
-unmapped_write access.ReadWrite h = clash (sym h)
+unmapped_write : (a : Option Access) → Refuses (unmapped_refusal a) → write_refusal a ≡ unmapped_refusal a
+unmapped_write None h = refl
+unmapped_write (Some access.ReadOnly) h = clash (sym h)
+unmapped_write (Some access.WriteOnly) h = clash (sym h)
+unmapped_write (Some access.ReadWrite) h = clash (sym h)
 
-unmapped_read : (a : Access) → Refuses (unmapped_refusal a) → read_refusal a ≡ unmapped_refusal a
-unmapped_read access.None h = refl
-unmapped_read access.ReadOnly h = clash (sym h)
-unmapped_read access.WriteOnly h = clash (sym h)
-unmapped_read access.ReadWrite h = clash (sym h)
+unmapped_read : (a : Option Access) → Refuses (unmapped_refusal a) → read_refusal a ≡ unmapped_refusal a
+unmapped_read None h = refl
+unmapped_read (Some access.ReadOnly) h = clash (sym h)
+unmapped_read (Some access.WriteOnly) h = clash (sym h)
+unmapped_read (Some access.ReadWrite) h = clash (sym h)
 
 unmapped_register : (c : Channel) (o v : ℕ) → Refuses (unmapped_refusal (channel_access o)) → register_refusal c o v ≡ unmapped_refusal (channel_access o)
 unfolding register_refusal

@@ -7,6 +7,7 @@ use lib.Dec.{eqb, leb, ltb}
 use borrow.Author.Tests.{eqb-true}
 use Rattle.address_map.specs.Addresses.{Named, named, main, channel, nothing}
 use Rattle.frame.specs.Frames.{Reading, read, framed}
+use Rattle.std.specs.Prelude.{Option, Some, None}
 use Rattle.register_map.specs.declared.Access.{Access}
 use Rattle.register_map.specs.declared.Access.TheVariants as access
 use Rattle.register_map.specs.AccessRule.{channel_access, main_access}
@@ -14,6 +15,8 @@ use Rattle.register_map.specs.AccessRefusals.{read_refusal, write_refusal}
 use Rattle.command_frames.specs.Commanding.{takes}
 use Rattle.readback.specs.declared.Disposition.{Disposition}
 use Rattle.readback.specs.declared.Disposition.TheVariants as disposition
+use Rattle.std.specs.declared.option.Option.{Option}
+use Rattle.std.specs.Option.{is_some}
 use Rattle.downloads.specs.declared.Download.{Download}
 use Rattle.downloads.specs.Portions as download
 use Rattle.channel_core.specs.declared.Channel.{Channel}
@@ -80,17 +83,17 @@ unless_later k a h l = either (λ (a : Answer). Later (refusal_in a)) (eqb k 0) 
 
 -- ---- What a channel refuses
 
-write_later : (a : Access) → Passes (unmapped_refusal a) → Later (write_refusal a)
-write_later access.None h = clash h
-write_later access.ReadOnly h = told refl
-write_later access.WriteOnly h = told refl
-write_later access.ReadWrite h = told refl
+write_later : (a : Option Access) → Passes (unmapped_refusal a) → Later (write_refusal a)
+write_later None h = clash h
+write_later (Some access.ReadOnly) h = told refl
+write_later (Some access.WriteOnly) h = told refl
+write_later (Some access.ReadWrite) h = told refl
 
-read_later : (a : Access) → Passes (unmapped_refusal a) → Later (read_refusal a)
-read_later access.None h = clash h
-read_later access.ReadOnly h = told refl
-read_later access.WriteOnly h = told refl
-read_later access.ReadWrite h = told refl
+read_later : (a : Option Access) → Passes (unmapped_refusal a) → Later (read_refusal a)
+read_later None h = clash h
+read_later (Some access.ReadOnly) h = told refl
+read_later (Some access.WriteOnly) h = told refl
+read_later (Some access.ReadWrite) h = told refl
 
 register_later : (c : Channel) (o v : ℕ) → Passes (unmapped_refusal (channel_access o)) → Later (register_refusal c o v)
 unfolding register_refusal
@@ -113,8 +116,8 @@ framing_later f = either (λ (r : Reading). Later (framing_refusal r)) (framed f
 user_later : (u : ℕ) → Later (user_refusal u)
 user_later u = either Later (outside 1 8 u) (told refl) (told refl)
 
-portion_later : (d : Download) (i n : ℕ) → Later (download.portion_refusal d i n)
-portion_later d i n = either Later d.opened (either Later (ltb d.count (i + n)) (told refl) (told refl)) (told refl)
+portion_later : (d : Option Download) (i n : ℕ) → Later (download.portion_refusal d i n)
+portion_later d i n = either Later (is_some d) (either Later (ltb (download.count_of d) (i + n)) (told refl) (told refl)) (told refl)
 
 query_later : (o : OneChannel) (q : Query) (k j : ℕ) → Passes (query_earlier o.m q k j) → Later (query_refusal o q k j)
 query_later o to.retired k j h = none (retired_refusal o.m k j) h

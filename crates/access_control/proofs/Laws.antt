@@ -7,6 +7,7 @@ use lib.ListN.{length}
 use lib.Dec.{eqb}
 use borrow.Author.Tests.{eqb-true}
 use Rattle.address_map.specs.Addresses.{Named, named, main, channel, nothing}
+use Rattle.std.specs.Prelude.{Option, Some, None}
 use Rattle.register_map.specs.declared.Access.{Access}
 use Rattle.register_map.specs.declared.Access.TheVariants as access
 use Rattle.register_map.specs.AccessRule.{channel_access, main_access}
@@ -176,11 +177,11 @@ shown_refusal r p (each f g h k) = refl
 abbrev Other : ℕ → Type 0
 Other k = eqb k permission_denied ≡ false
 
-unmapped_other : (a : Access) → Other (unmapped_refusal a)
-unmapped_other access.None = refl
-unmapped_other access.ReadOnly = refl
-unmapped_other access.WriteOnly = refl
-unmapped_other access.ReadWrite = refl
+unmapped_other : (a : Option Access) → Other (unmapped_refusal a)
+unmapped_other None = refl
+unmapped_other (Some access.ReadOnly) = refl
+unmapped_other (Some access.WriteOnly) = refl
+unmapped_other (Some access.ReadWrite) = refl
 
 address_other : (n : Named) → Other (address_refusal n)
 address_other (main o) = unmapped_other (main_access o)

@@ -1,5 +1,5 @@
 -- Document 02, card 9: "Every call on the board names its seat". The board's calls by role, which is the card's seat: a layer over the calls themselves.
-use Rattle.std.specs.Prelude.{ℕ, ◌*◌, ◌≡◌, ◌⊎◌, Bool, true, false, cond, not, List, [], ◌∷◌, length, eqb}
+use Rattle.std.specs.Prelude.{ℕ, ◌*◌, ◌≡◌, ◌⊎◌, Bool, true, false, cond, not, List, [], ◌∷◌, length, eqb, Option, Some, None}
 use Rattle.refusal.specs.Refusals.{number_of}
 use Rattle.refusal.specs.declared.Refusal.TheVariants as refusal
 use Rattle.address_map.specs.Addresses.{Named, named, main, channel, nothing}
@@ -65,11 +65,11 @@ lent_refusal n m lends_readbacks k j = length_refusal k (m * 8)
 lent_refusal n m (lends_buffers number) k j = retired_refusal m k j
 
 -- 3; whether the register can be read or written, 4, comes after 13
-abbrev pub unmapped_refusal : Access → ℕ
-unmapped_refusal access.None = number_of refusal.UnmappedRegister
-unmapped_refusal access.ReadOnly = 0
-unmapped_refusal access.WriteOnly = 0
-unmapped_refusal access.ReadWrite = 0
+abbrev pub unmapped_refusal : Option Access → ℕ
+unmapped_refusal None = number_of refusal.UnmappedRegister
+unmapped_refusal (Some access.ReadOnly) = 0
+unmapped_refusal (Some access.WriteOnly) = 0
+unmapped_refusal (Some access.ReadWrite) = 0
 
 abbrev pub address_refusal : Named → ℕ
 address_refusal (main offset) = unmapped_refusal (main_access offset)

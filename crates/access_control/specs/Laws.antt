@@ -14,7 +14,8 @@ use Rattle.board.specs.Answers.{BoardAnswer, one, each, refuses}
 use Rattle.board.specs.Worlds.{World}
 use Rattle.isolation.specs.Calls.{Call, tick, Lent, Item, answer, after, lent_after, step, Allowed, world_after}
 use Rattle.isolation.specs.Feeding.{answer_for}
-use Rattle.access_control.specs.Guarding.{Request, denied, earlier_on, permission_denied, refused_by, shown, guarded_answer, guarded_after, guarded_lent_after, answer_in, guarded_step, GuardedAllowed, guarded_world_after}
+use Rattle.access_control.specs.declared.GuardedBoard.{GuardedBoard}
+use Rattle.access_control.specs.Guarding.{Request, denied, earlier_on, permission_denied, refused_by, shown, guarded_answer, guarded_after, guarded_lent_after, board_after, answer_in, guarded_step, GuardedAllowed, guarded_world_after}
 use Rattle.access_control.specs.OneChannel.{ChannelRequest, denied_to, earlier_to, shown_to, guarded_transition, guarded_response}
 
 -- ---- What 13 comes between
@@ -70,6 +71,10 @@ pub record Answered (r : BoardRights) (p : Role) (b : Board) (x : Call) (l : Len
 
 abbrev pub CallsAnswered : Type 0
 CallsAnswered = (r : BoardRights) (p : Role) (b : Board) (x : Call) (l : Lent) → Answered r p b x l
+
+-- no call changes the rights
+abbrev pub RightsKept : Type 0
+RightsKept = (g : GuardedBoard) (p : Role) (x : Call) (l : Lent) → (board_after g p x l).rights ≡ g.rights
 
 -- "a tick's answer shows a seat only channels it may read": of these what the board's tick answers, of the others none
 pub record TickShows (r : BoardRights) (p : Role) (b : Board) (l : Lent) (c : ℕ) : Type 0 where

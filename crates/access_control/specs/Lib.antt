@@ -1,4 +1,5 @@
 pub mod Guarding
+pub mod Checks
 pub mod OneChannel
 pub mod Laws
 pub mod Isolation

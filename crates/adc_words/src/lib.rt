@@ -2,87 +2,60 @@
 #![tactic(auto)]
 
 ghost use Rattle.std.specs.Prelude.{◌≡◌, cond};
-ghost use Rattle.adc_words.specs.Positions.{no_reply, none_arrived, with_reply, arrived};
+ghost use Rattle.adc_words.specs.Positions.{none_arrived, with_reply, arrived};
 
-// A reply: stored or not, its CRC right or not, and its data.
-#[derive(Clone, Copy)]
+// A reply that was stored: its CRC right or not, and its data.
+#[derive(Clone, Copy, Debug, PartialEq, Eq)]
 pub struct AdcWord {
-    pub stored: bool,
     pub right: bool,
     pub data: u16,
 }
 
-#[derive(Clone, Copy)]
+// None: a reply that was not stored, or that has not come.
+#[derive(Clone, Copy, Debug, PartialEq, Eq)]
 pub struct AdcWords {
-    pub third: AdcWord,
-    pub fourth: AdcWord,
-    pub fifth: AdcWord,
-    pub sixth: AdcWord,
-}
-
-// A reply that has not come.
-fn no_reply() -> AdcWord
-    ensures { result ≡ no_reply }
-{
-    AdcWord {
-        stored: false,
-        right: false,
-        data: 0,
-    }
-}
-
-// One of two words, for a position.
-fn select(first: bool, one: AdcWord, other: AdcWord) -> AdcWord
-    ensures { result ≡ cond first one other }
-{
-    if first { one } else { other }
+    pub third: Option<AdcWord>,
+    pub fourth: Option<AdcWord>,
+    pub fifth: Option<AdcWord>,
+    pub sixth: Option<AdcWord>,
 }
 
 impl AdcWords {
     pub fn none() -> AdcWords
         ensures { result ≡ none_arrived }
     {
-        let none = no_reply();
         AdcWords {
-            third: none,
-            fourth: none,
-            fifth: none,
-            sixth: none,
+            third: None,
+            fourth: None,
+            fifth: None,
+            sixth: None,
         }
     }
 
-    // With one more reply, stored or not, after `before` others.
+    // One more reply, stored or not, after `before` others.
     #[tactic(auto, unfolding(crate::specs::Positions::with_reply))]
-    pub fn with_reply(self, before: u8, word: AdcWord) -> AdcWords
-        ensures { result ≡ with_reply self before word }
+    pub fn add(&mut self, before: u8, word: Option<AdcWord>)
+        ensures { self.new ≡ with_reply self.old before word }
     {
-        let third = self.third;
-        let fourth = self.fourth;
-        let fifth = self.fifth;
-        let sixth = self.sixth;
-        AdcWords {
-            third: select(before == 2, word, third),
-            fourth: select(before == 3, word, fourth),
-            fifth: select(before == 4, word, fifth),
-            sixth: select(before == 5, word, sixth),
+        match before {
+            2 => self.third = word,
+            3 => self.fourth = word,
+            4 => self.fifth = word,
+            5 => self.sixth = word,
+            _ => {}
         }
     }
 
     // Those of a send that got so many replies: what stands in the place of one that has not come is of an earlier send, if anything.
     #[tactic(auto, unfolding(crate::specs::Positions::arrived))]
-    pub fn arrived(self, replies: u8) -> AdcWords
-        ensures { result ≡ arrived self replies }
+    pub fn arrived(&self, replies: u8) -> AdcWords
+        ensures { result ≡ arrived self.now replies }
     {
-        let third = self.third;
-        let fourth = self.fourth;
-        let fifth = self.fifth;
-        let sixth = self.sixth;
-        let none = no_reply();
         AdcWords {
-            third: select(2 < replies, third, none),
-            fourth: select(3 < replies, fourth, none),
-            fifth: select(4 < replies, fifth, none),
-            sixth: select(5 < replies, sixth, none),
+            third: self.third.filter(|_| 2 < replies),
+            fourth: self.fourth.filter(|_| 3 < replies),
+            fifth: self.fifth.filter(|_| 4 < replies),
+            sixth: self.sixth.filter(|_| 5 < replies),
         }
     }
 }

@@ -1,5 +1,5 @@
 -- Document 01, 'Register map': what an address names. Main or a channel (1 to 4), with the offset from its start, or neither.
-use Rattle.std.specs.Prelude.{ℕ, ◌/◌, ◌%◌, cond, ltb}
+use Rattle.std.specs.Prelude.{ℕ, ◌/◌, ◌%◌, cond, Option, Some, None, ltb}
 use Rattle.address_map.specs.declared.Region.{Region}
 use Rattle.address_map.specs.declared.Region.TheVariants as region
 
@@ -15,7 +15,7 @@ named address =
     (cond (ltb address 0x2800) (channel (address / 0x800) (address % 0x800)) nothing)
 
 -- what each case of `decode_address`'s answer stands for
-abbrev pub named_of : Region → Named
-named_of (region.Main offset) = main offset
-named_of (region.Channel number offset) = channel number offset
-named_of region.Outside = nothing
+abbrev pub named_of : Option Region → Named
+named_of (Some (region.Main offset)) = main offset
+named_of (Some (region.Channel number offset)) = channel number offset
+named_of None = nothing

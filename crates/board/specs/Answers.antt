@@ -1,10 +1,9 @@
 -- Document 01, 'Calls': what calls on the board answer, in its numbers and values.
-use Rattle.std.specs.Prelude.{ℕ, zero, suc, Bool, false}
+use Rattle.std.specs.Prelude.{ℕ, zero, suc, Bool, false, List, Option, None, Result, Ok, Err, get_or}
 use Rattle.refusal.specs.Refusals.{number_of}
+use Rattle.refusal.specs.declared.Refusal.{Refusal}
 use Rattle.channel_core.specs.Answers.{Answer, is_refusal, line_of}
 use Rattle.channel_core.specs.Answers as ans
-use Rattle.board.specs.declared.Frames.{Frames}
-use Rattle.board.specs.declared.Frames.TheVariants as frames
 
 pub data BoardAnswer : Type 0 where
   -- the answer of any other call
@@ -20,9 +19,13 @@ of_four (suc (suc zero)) f g h k = g
 of_four (suc (suc (suc zero))) f g h k = h
 of_four (suc (suc (suc (suc c)))) f g h k = k
 
-abbrev pub frames_of : Frames → BoardAnswer
-frames_of (frames.Each a b c d) = each (line_of a) (line_of b) (line_of c) (line_of d)
-frames_of (frames.Refused k) = one (ans.refused (number_of k))
+-- the answer of a tick: the four channels' frames in a list
+abbrev pub frame_at : List (Option ℕ) → ℕ → Answer
+frame_at frames index = line_of (get_or frames index None)
+
+abbrev pub frames_of : Result (List (Option ℕ)) Refusal → BoardAnswer
+frames_of (Ok frames) = each (frame_at frames 0) (frame_at frames 1) (frame_at frames 2) (frame_at frames 3)
+frames_of (Err k) = one (ans.refused (number_of k))
 
 -- whether a call was refused
 abbrev pub refuses : BoardAnswer → Bool

@@ -1,7 +1,8 @@
 -- Document 01, 'Calls': opening, and the calls that every channel shares, by the one-channel definitions. Of each: its refusal (0: none) where it is
 -- the board's, its answer, the board after it, and what it leaves of the memory that it is lent. Refused, it leaves all as it was.
-use Rattle.std.specs.Prelude.{ℕ, zero, suc, ◌*◌, cond, List, length, eqb}
+use Rattle.std.specs.Prelude.{ℕ, zero, suc, ◌*◌, cond, List, Result, Ok, Err, length, eqb}
 use Rattle.refusal.specs.Refusals.{number_of}
+use Rattle.refusal.specs.declared.Refusal.{Refusal}
 use Rattle.refusal.specs.declared.Refusal.TheVariants as refusal
 use Rattle.channel_core.specs.declared.Channel.{Channel}
 use Rattle.channel_core.specs.Answers.{Answer, unless}
@@ -31,6 +32,16 @@ closed = opened 0 0
 
 unfoldable pub open_board : ℕ → ℕ → ℕ → ℕ → Board
 open_board n m setpoints readbacks = cond (eqb (open_refusal n m setpoints readbacks) 0) (opened n m) closed
+
+-- the board that an opening gives: where it is refused the closed one
+abbrev pub board_of : Result Board Refusal → Board
+board_of (Ok b) = b
+board_of (Err k) = closed
+
+-- the answer of an opening
+abbrev pub opening_of : Result Board Refusal → Answer
+opening_of (Ok b) = ans.done
+opening_of (Err k) = ans.refused (number_of k)
 
 unfoldable pub open_answer : ℕ → ℕ → ℕ → ℕ → Answer
 open_answer n m setpoints readbacks = unless (open_refusal n m setpoints readbacks) ans.done

@@ -2,53 +2,37 @@
 #![tactic(auto)]
 
 ghost use Rattle.std.specs.Prelude.{◌≡◌, length};
-ghost use Rattle.refusal.specs.Refusals.{verdict_number};
 ghost use Rattle.channel_core.specs.Answers.{outcome_of, part_of};
 ghost use Rattle.channel_replies.specs.Answers.{receipt_of};
 ghost use Rattle.channel.specs.Answers.{length_of};
-ghost use Rattle.board_channels.specs.Calls.{setpoint_answer, setpoint_words, set_armed, arm_board, disarm_board, arm_answer, reply_board, reply_answer, reply_words, retired_refusal, retired_answer, retired_length};
+ghost use Rattle.board_state.specs.Checks.{index_number, index_of};
+ghost use Rattle.board_channels.specs.Calls.{setpoint_answer, setpoint_words, arm_board, disarm_board, arm_answer, reply_board, reply_answer, reply_words, retired_refusal, retired_answer, retired_length};
 
-use board_state::{Board, Written};
-use channel::PartLength;
-use channel_core::Outcome;
+use board_state::Board;
 use channel_replies::Receipt;
-use refusal::{Refusal, Verdict};
-
-// The board after a reply, and what became of it.
-#[derive(Clone, Copy)]
-pub struct Received {
-    pub board: Board,
-    pub receipt: Receipt,
-}
+use refusal::Refusal;
 
 // A setpoint into the named channel's part. The board stays as it is.
 #[tactic(auto, unfolding(crate::specs::Calls::setpoint_answer, crate::specs::Calls::setpoint_words))]
 pub fn write_setpoint(
-    b: Board,
+    b: &Board,
     setpoints: &mut [u32],
     number: u32,
     user: u32,
     buffer: u32,
     index: u32,
     word: u32,
-) -> Outcome
-    ensures { (outcome_of result ≡ setpoint_answer b (length setpoints.old) number user buffer index) × (setpoints.new ≡ setpoint_words b setpoints.old number user buffer index word) }
+) -> Result<(), Refusal>
+    ensures answer { outcome_of result ≡ setpoint_answer b.now (length setpoints.old) number user buffer index }
+    ensures words { setpoints.new ≡ setpoint_words b.now setpoints.old number user buffer index word }
 {
-    let n = b.n;
-    if setpoints.len() != n as usize * 64 {
-        return Outcome::Refused(Refusal::SizeMismatch);
-    }
-    if channel::is_outside(1, 4, number) {
-        return Outcome::Refused(Refusal::OutOfRange);
-    }
-    let channel_number = number as u8;
-    let named = b.channel(channel_number);
-    let start = board_state::part_start(channel_number, n, 16);
-    let end = start + n as usize * 16;
+    b.check_setpoints(setpoints)?;
+    let at = board_state::check_channel(number)?;
+    let part = b.setpoint_part(at);
     channel::write_setpoint(
-        named,
-        &mut setpoints[start..end],
-        n,
+        &b.channels[at],
+        &mut setpoints[part],
+        b.n,
         user,
         buffer,
         index,
@@ -56,103 +40,75 @@ pub fn write_setpoint(
     )
 }
 
-// The named channel armed (`on`) or disarmed.
 #[tactic(auto, unfolding(crate::specs::Calls::set_armed, crate::specs::Calls::arm_answer))]
-fn set_armed(b: Board, number: u32, on: bool) -> Written
-    ensures { (result.board ≡ set_armed b number on) × (outcome_of result.outcome ≡ arm_answer number) }
+pub fn arm(b: &mut Board, number: u32) -> Result<(), Refusal>
+    ensures next { b.new ≡ arm_board b.old number }
+    ensures answer { outcome_of result ≡ arm_answer number }
 {
-    if channel::is_outside(1, 4, number) {
-        return Written {
-            board: b,
-            outcome: Outcome::Refused(Refusal::OutOfRange),
-        };
-    }
-    let channel_number = number as u8;
-    let changed = channel::set_armed(b.channel(channel_number), on);
-    Written {
-        board: b.with_channel(channel_number, changed),
-        outcome: Outcome::Done,
-    }
+    let at = board_state::check_channel(number)?;
+    channel::arm(&mut b.channels[at]);
+    Ok(())
 }
 
-pub fn arm(b: Board, number: u32) -> Written
-    ensures { (result.board ≡ arm_board b number) × (outcome_of result.outcome ≡ arm_answer number) }
+#[tactic(auto, unfolding(crate::specs::Calls::set_armed, crate::specs::Calls::arm_answer))]
+pub fn disarm(b: &mut Board, number: u32) -> Result<(), Refusal>
+    ensures next { b.new ≡ disarm_board b.old number }
+    ensures answer { outcome_of result ≡ arm_answer number }
 {
-    set_armed(b, number, true)
-}
-
-pub fn disarm(b: Board, number: u32) -> Written
-    ensures { (result.board ≡ disarm_board b number) × (outcome_of result.outcome ≡ arm_answer number) }
-{
-    set_armed(b, number, false)
+    let at = board_state::check_channel(number)?;
+    channel::disarm(&mut b.channels[at]);
+    Ok(())
 }
 
 // A reply to the named channel, stored in its part.
 #[tactic(auto, unfolding(crate::specs::Calls::reply_board, crate::specs::Calls::reply_answer, crate::specs::Calls::reply_words))]
-pub fn reply(b: Board, readbacks: &mut [u32], number: u32, frame: u64) -> Received
-    ensures { (result.board ≡ reply_board b (length readbacks.old) number frame) × (receipt_of result.receipt ≡ reply_answer b (length readbacks.old) number frame) × (readbacks.new ≡ reply_words b readbacks.old number frame) }
+pub fn reply(
+    b: &mut Board,
+    readbacks: &mut [u32],
+    number: u32,
+    frame: u64,
+) -> Result<Receipt, Refusal>
+    ensures next { b.new ≡ reply_board b.old (length readbacks.old) number frame }
+    ensures answer { receipt_of result ≡ reply_answer b.old (length readbacks.old) number frame }
+    ensures words { readbacks.new ≡ reply_words b.old readbacks.old number frame }
 {
-    let m = b.m;
-    if readbacks.len() != m as usize * 8 {
-        return Received {
-            board: b,
-            receipt: Receipt::Refused(Refusal::SizeMismatch),
-        };
-    }
-    if channel::is_outside(1, 4, number) {
-        return Received {
-            board: b,
-            receipt: Receipt::Refused(Refusal::OutOfRange),
-        };
-    }
-    let channel_number = number as u8;
-    let named = b.channel(channel_number);
-    let start = board_state::part_start(channel_number, m, 2);
-    let end = start + m as usize * 2;
-    let received = channel_replies::reply(named, &mut readbacks[start..end], m, b.user, frame);
-    let changed = received.channel;
-    let receipt = received.receipt;
-    Received {
-        board: b.with_channel(channel_number, changed),
-        receipt: receipt,
-    }
+    b.check_readbacks(readbacks)?;
+    let at = board_state::check_channel(number)?;
+    let part = b.readback_part(at);
+    channel_replies::reply(
+        &mut b.channels[at],
+        &mut readbacks[part],
+        b.m,
+        b.user,
+        frame,
+    )
 }
 
-// Whether a call is refused that is lent the named channel's two readback buffers: their lengths, then the number.
-pub fn check_buffers(b: Board, number: u32, one: usize, two: usize) -> Verdict
-    ensures { verdict_number result ≡ retired_refusal b number one two }
+// The index of the named channel, lent its two readback buffers: their lengths are checked, then the number.
+pub fn check_buffers(b: &Board, number: u32, one: usize, two: usize) -> Result<usize, Refusal>
+    ensures refusal { index_number result ≡ retired_refusal b.now number one two }
+    ensures index { index_of result number }
 {
-    let verdict = channel::check_buffers(b.m, one, two);
-    match verdict {
-        Verdict::Allowed => {
-            if channel::is_outside(1, 4, number) {
-                return Verdict::Refused(Refusal::OutOfRange);
-            }
-            Verdict::Allowed
-        }
-        Verdict::Refused(refusal) => Verdict::Refused(refusal),
-    }
+    channel::check_buffers(b.m, one, two)?;
+    board_state::check_channel(number)
 }
 
 // The retired part of the named channel, of the two buffers lent; empty where refused.
-#[tactic(auto, unfolding(crate::specs::Calls::retired_words))]
-pub fn retired<'a>(b: Board, number: u32, one: &'a [u32], two: &'a [u32]) -> &'a [u32]
-    ensures { result.now ≡ part_of (retired_answer b number one.now two.now) }
+#[tactic(auto, unfolding(crate::specs::Calls::retired_words), using(crate::proofs::RetiredPart::retired_part_lem, std::proofs::lemmas::List::get_or_default))]
+pub fn retired<'a>(b: &Board, number: u32, one: &'a [u32], two: &'a [u32]) -> &'a [u32]
+    ensures { result.now ≡ part_of (retired_answer b.now number one.now two.now) }
 {
-    if channel::is_outside(1, 4, number) {
-        return &one[..0];
+    match board_state::check_channel(number) {
+        Ok(at) => channel::retired(&b.channels[at], b.m, one, two),
+        Err(_) => &[],
     }
-    channel::retired(b.channel(number as u8), b.m, one, two)
 }
 
 // The length of what `retired` gives, or the refusal.
 #[tactic(auto, unfolding(crate::specs::Calls::retired_length, crate::specs::Calls::retired_words, channel::specs::Calls::retired_length))]
-pub fn retired_length<'a>(b: Board, number: u32, one: &'a [u32], two: &'a [u32]) -> PartLength
-    ensures { length_of result ≡ retired_length b number one.now two.now }
+pub fn retired_length(b: &Board, number: u32, one: &[u32], two: &[u32]) -> Result<usize, Refusal>
+    ensures { length_of result ≡ retired_length b.now number one.now two.now }
 {
-    let verdict = check_buffers(b, number, one.len(), two.len());
-    match verdict {
-        Verdict::Allowed => channel::retired_length(b.channel(number as u8), b.m, one, two),
-        Verdict::Refused(refusal) => PartLength::Refused(refusal),
-    }
+    let at = check_buffers(b, number, one.len(), two.len())?;
+    channel::retired_length(&b.channels[at], b.m, one, two)
 }

@@ -6,6 +6,8 @@ use mathlib.Core.List.{List}
 use lib.ListN.{length}
 use lib.Dec.{eqb}
 use borrow.Author.Tests.{eqb-true, eq-eqb, lt-ltb, le-ltb}
+use Rattle.std.specs.declared.option.Option.TheVariants.{Some}
+use Rattle.downloads.specs.declared.Download.{Download}
 use Rattle.channel_core.specs.Answers.{part, part_length}
 use Rattle.channel.specs.Calls as retired
 use Rattle.channel.specs.Downloads as one
@@ -30,12 +32,11 @@ module _ (b : Board) (number index size : ℕ) (s t : List ℕ) where
       go true p false q = (rw (p, q), rw (p, q))
       go false p y q = (rw p, rw p)
 
-  words_range : Fit b number index size s t → no_channel number ≡ false → (download_at b number index size s t).opened ≡ true
-      → index + size ≤ (download_at b number index size s t).count
-      → (download_at b number index size s t).count ≡ (channel_at b number).readbacks.retired
+  words_range : Fit b number index size s t → no_channel number ≡ false → (d : Download) → download_at b number index size s t ≡ Some d
+      → index + size ≤ d.count → d.count ≡ (channel_at b number).readbacks.retired
       → portion_words b number index size s t ≡ range b number index size s t
   unfolding portion_words one.portion_words retired_words retired.retired_words
-  words_range f e o l k = rw (eq-eqb _ _ f.0, eq-eqb _ _ f.1, e, o, le-ltb _ _ l, k)
+  words_range f e d o l k = rw (eq-eqb _ _ f.0, eq-eqb _ _ f.1, e, o, le-ltb _ _ l, k)
 
   answered : PortionAnswered b number index size s t
   unfolding portion_answer portion_length
@@ -44,12 +45,12 @@ module _ (b : Board) (number index size : ℕ) (s t : List ℕ) where
         lengths = short;
         channel = λ f e. let p = eq-eqb _ _ f.0 in let q = eq-eqb _ _ f.1 in (rw (p, q, e), rw (p, q, e));
         none_open = λ f e o. let p = eq-eqb _ _ f.0 in let q = eq-eqb _ _ f.1 in (rw (p, q, e, o), rw (p, q, e, o));
-        past = λ f e o l. let p = eq-eqb _ _ f.0 in let q = eq-eqb _ _ f.1 in (rw (p, q, e, o, lt-ltb _ _ l), rw (p, q, e, o, lt-ltb _ _ l));
+        past = λ f e d o l. let p = eq-eqb _ _ f.0 in let q = eq-eqb _ _ f.1 in (rw (p, q, e, o, lt-ltb _ _ l), rw (p, q, e, o, lt-ltb _ _ l));
         served =
-            λ f e o l k.
+            λ f e d o l k.
             let p = eq-eqb _ _ f.0 in
             let q = eq-eqb _ _ f.1 in
-            let same = words_range f e o l k in (
+            let same = words_range f e d o l k in (
               rw (p, q, e, o, le-ltb _ _ l) (ap part same),
               rw (p, q, e, o, le-ltb _ _ l) (ap (λ (x : List ℕ). part_length (length x)) same),
             );

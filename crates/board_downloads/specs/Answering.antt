@@ -1,6 +1,6 @@
 -- Document 02, card 8: what the calls of a download answer, on any board and lent any two buffers. "(12 "overtaken": a portion with no download open; checked
 -- after the channel and before the range.)", with what comes before and after it.
-use Rattle.std.specs.Prelude.{ℕ, ◌+◌, ◌≤◌, ◌<◌, ◌≡◌, true, false, List, length, take, drop}
+use Rattle.std.specs.Prelude.{ℕ, ◌+◌, ◌≤◌, ◌<◌, ◌≡◌, true, false, List, length, take, drop, Option, Some, IsNone}
 use Rattle.downloads.specs.declared.Download.{Download}
 use Rattle.channel_core.specs.Answers.{refused, part, part_length}
 use Rattle.board_state.specs.declared.Board.{Board}
@@ -18,7 +18,7 @@ abbrev pub OpeningsAnswered : Type 0
 OpeningsAnswered = (b : Board) (number : ℕ) → OpeningAnswered b number
 
 module _ (b : Board) (number index size : ℕ) (s t : List ℕ) where
-  abbrev pub download_at : Download
+  abbrev pub download_at : Option Download
   download_at = (channel_at b number).download
 
   -- both buffers have M words
@@ -38,10 +38,10 @@ module _ (b : Board) (number index size : ℕ) (s t : List ℕ) where
   pub record PortionAnswered : Type 0 where
     pub lengths : (Fit → ⊥) → Refused 1
     pub channel : Fit → no_channel number ≡ true → Refused 2
-    pub none_open : Fit → no_channel number ≡ false → download_at.opened ≡ false → Refused 12
-    pub past : Fit → no_channel number ≡ false → download_at.opened ≡ true → download_at.count < index + size → Refused 2
-    pub served : Fit → no_channel number ≡ false → download_at.opened ≡ true → index + size ≤ download_at.count
-        → download_at.count ≡ (channel_at b number).readbacks.retired
+    pub none_open : Fit → no_channel number ≡ false → IsNone download_at → Refused 12
+    pub past : Fit → no_channel number ≡ false → (d : Download) → download_at ≡ Some d → d.count < index + size → Refused 2
+    pub served : Fit → no_channel number ≡ false → (d : Download) → download_at ≡ Some d → index + size ≤ d.count
+        → d.count ≡ (channel_at b number).readbacks.retired
         → (portion_answer b number index size s t ≡ part range) × (portion_length b number index size s t ≡ part_length (length range))
 
 abbrev pub PortionsAnswered : Type 0

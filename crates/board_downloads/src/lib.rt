@@ -7,72 +7,48 @@ ghost use Rattle.channel.specs.Answers.{length_of};
 ghost use Rattle.board_downloads.specs.Calls.{opened_board, opening_answer, portion_answer, portion_length};
 
 use board_state::Board;
-use channel::PartLength;
-use refusal::{Refusal, Verdict};
+use refusal::Refusal;
 
-// The board after a download was opened, and the count that it remembers, or the refusal.
-#[derive(Clone, Copy)]
-pub struct Opened {
-    pub board: Board,
-    pub length: PartLength,
-}
-
-// Lent nothing.
+// Opens the named channel's download, lent nothing: the count that it remembers.
 #[tactic(auto, unfolding(crate::specs::Calls::opened_board, crate::specs::Calls::opening_answer))]
-pub fn open(b: Board, number: u32) -> Opened
-    ensures { (result.board ≡ opened_board b number) × (length_of result.length ≡ opening_answer b number) }
+pub fn open(b: &mut Board, number: u32) -> Result<usize, Refusal>
+    ensures next { b.new ≡ opened_board b.old number }
+    ensures answer { length_of result ≡ opening_answer b.old number }
 {
-    if channel::is_outside(1, 4, number) {
-        return Opened {
-            board: b,
-            length: PartLength::Refused(Refusal::OutOfRange),
-        };
-    }
-    let channel_number = number as u8;
-    let opened = channel::download::open(b.channel(channel_number));
-    let changed = opened.channel;
-    let count = opened.count;
-    Opened {
-        board: b.with_channel(channel_number, changed),
-        length: PartLength::Words(count as usize),
-    }
+    let at = board_state::check_channel(number)?;
+    Ok(channel::download::open(&mut b.channels[at]) as usize)
 }
 
 // `size` words of the named channel's download, from `index` on, of the inactive one of the two buffers lent; empty where refused.
-#[tactic(auto, unfolding(crate::specs::Calls::portion_words))]
+#[tactic(auto, unfolding(crate::specs::Calls::portion_words), using(crate::proofs::Portions::portion_part, std::proofs::lemmas::List::get_or_default))]
 pub fn portion<'a>(
-    b: Board,
+    b: &Board,
     number: u32,
     index: u32,
     size: u32,
     one: &'a [u32],
     two: &'a [u32],
 ) -> &'a [u32]
-    ensures { result.now ≡ part_of (portion_answer b number index size one.now two.now) }
+    ensures { result.now ≡ part_of (portion_answer b.now number index size one.now two.now) }
 {
-    if channel::is_outside(1, 4, number) {
-        return &one[..0];
+    match board_state::check_channel(number) {
+        Ok(at) => channel::download::portion(&b.channels[at], b.m, index, size, one, two),
+        Err(_) => &[],
     }
-    channel::download::portion(b.channel(number as u8), b.m, index, size, one, two)
 }
 
 // The length of what `portion` gives, or the refusal.
 #[tactic(auto, unfolding(crate::specs::Calls::portion_length, crate::specs::Calls::portion_words, channel::specs::Downloads::portion_length))]
-pub fn portion_length<'a>(
-    b: Board,
+pub fn portion_length(
+    b: &Board,
     number: u32,
     index: u32,
     size: u32,
-    one: &'a [u32],
-    two: &'a [u32],
-) -> PartLength
-    ensures { length_of result ≡ portion_length b number index size one.now two.now }
+    one: &[u32],
+    two: &[u32],
+) -> Result<usize, Refusal>
+    ensures { length_of result ≡ portion_length b.now number index size one.now two.now }
 {
-    let verdict = board_channels::check_buffers(b, number, one.len(), two.len());
-    match verdict {
-        Verdict::Allowed => {
-            channel::download::portion_length(b.channel(number as u8), b.m, index, size, one, two)
-        }
-        Verdict::Refused(refusal) => PartLength::Refused(refusal),
-    }
+    let at = board_channels::check_buffers(b, number, one.len(), two.len())?;
+    channel::download::portion_length(&b.channels[at], b.m, index, size, one, two)
 }

@@ -10,42 +10,20 @@ use channel_readings::Readings;
 use refusal::Refusal;
 use tick_outcome::TickOutcome;
 
-// The answer of the call.
-#[derive(Clone, Copy)]
-pub enum Measurement {
-    Readings(Readings),
-    Refused(Refusal),
-}
-
 // Lent nothing. The board stays as it is.
 #[tactic(auto, unfolding(crate::specs::Calls::readings_answer))]
-pub fn last_readings(b: Board, number: u32) -> Measurement
-    ensures { measurement_of result ≡ readings_answer b number }
+pub fn last_readings(b: &Board, number: u32) -> Result<Readings, Refusal>
+    ensures { measurement_of result ≡ readings_answer b.now number }
 {
-    if channel::is_outside(1, 4, number) {
-        return Measurement::Refused(Refusal::OutOfRange);
-    }
-    let channel_number = number as u8;
-    Measurement::Readings(channel_readings::last_readings(b.channel(channel_number)))
-}
-
-// The answer of the call below.
-#[derive(Clone, Copy)]
-pub enum TickReport {
-    Outcome(TickOutcome),
-    Refused(Refusal),
+    let at = board_state::check_channel(number)?;
+    Ok(channel_readings::last_readings(&b.channels[at]))
 }
 
 // Lent nothing. The board stays as it is.
 #[tactic(auto, unfolding(crate::specs::Calls::last_tick_answer))]
-pub fn last_tick(b: Board, number: u32) -> TickReport
-    ensures { tick_report_of result ≡ last_tick_answer b number }
+pub fn last_tick(b: &Board, number: u32) -> Result<TickOutcome, Refusal>
+    ensures { tick_report_of result ≡ last_tick_answer b.now number }
 {
-    if channel::is_outside(1, 4, number) {
-        return TickReport::Refused(Refusal::OutOfRange);
-    }
-    let channel_number = number as u8;
-    let channel = b.channel(channel_number);
-    let outcome = channel.outcome;
-    TickReport::Outcome(outcome)
+    let at = board_state::check_channel(number)?;
+    Ok(b.channels[at].outcome)
 }

@@ -1,2 +1,2 @@
-pub mod Lists
 pub mod Parts
+pub mod Taken

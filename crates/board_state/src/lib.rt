@@ -1,17 +1,19 @@
 // The board's state: depths, current user, Main registers and four channels. It holds no rule of what a channel does.
 #![tactic(auto)]
 
-ghost use Rattle.std.specs.Prelude.{◌≡◌, ◌*◌};
+ghost use Rattle.std.specs.Prelude.{min, ◌≡◌, ◌*◌, ◌+◌, ◌^◌, ◌<◌, ◌≤◌, length};
 ghost use Rattle.channel.specs.Calls.{main_bit};
-ghost use Rattle.board_state.specs.Parts.{part_start};
-ghost use Rattle.board_state.specs.State.{opened, channel_at, with_channel_at, with_user, event_came};
-ghost use Rattle.board_state.specs.Main.{main_word, main_status, taken_at, status_read, main_stored, main_written, main_value, main_read, level_of, enabled_bit};
+ghost use Rattle.board_state.specs.Checks.{channel_checked, setpoint_size, readback_size, setpoints_checked, readbacks_checked};
+ghost use Rattle.board_state.specs.State.{opened, channel_at, event_came};
+ghost use Rattle.board_state.specs.Main.{main_word, main_status, taken_at, status_read, main_written, main_value, main_read, level_of, enabled_bit};
 
-use channel_core::{Channel, Outcome};
+use channel_core::Channel;
+use refusal::Refusal;
 use status::weigh;
+use std::ops::Range;
 
 // Main's registers: Level, Vector, Enable, and in each status copy whether an event came.
-#[derive(Clone, Copy)]
+#[derive(Clone, Copy, Debug, PartialEq, Eq)]
 pub struct Main {
     pub level: u8,
     pub vector: u16,
@@ -20,7 +22,7 @@ pub struct Main {
     pub polling: bool,
 }
 
-#[derive(Clone, Copy)]
+#[derive(Clone, Copy, Debug, PartialEq, Eq)]
 pub struct Board {
     pub n: u32,
     pub m: u32,
@@ -29,18 +31,25 @@ pub struct Board {
     pub channels: [Channel; 4],
 }
 
-// The board after a call, and its answer.
-#[derive(Clone, Copy)]
-pub struct Written {
-    pub board: Board,
-    pub outcome: Outcome,
+// The index of channel 1 to 4; there is no other channel.
+pub fn check_channel(number: u32) -> Result<usize, Refusal>
+    ensures { channel_checked result number }
+{
+    if channel::is_outside(1, 4, number) {
+        Err(Refusal::OutOfRange)
+    } else {
+        Ok((number - 1) as usize)
+    }
 }
 
-// Where a channel's part of a memory starts: the parts of channels 1 to 4 lie in a row, each of so many words to a unit of depth.
-pub fn part_start(number: u8, depth: u32, words: u8) -> usize
-    ensures { result ≡ part_start number (depth * words) }
+// Where the part of one of the four channels lies in a memory: the parts lie in a row, each of this size.
+fn part(index: usize, size: usize) -> Range<usize>
+    requires { index * size + size < 2 ^ 64 }
+    ensures start { result.start ≡ index * size }
+    ensures end { result.end ≡ index * size + size }
 {
-    registers::zero_based(number) as usize * (depth as usize * words as usize)
+    let start = index * size;
+    start..start + size
 }
 
 // A Main status: D11 is 1, D10-D8 the user less 1, D7-D4 channels 4-1, D3 an event came.
@@ -49,34 +58,18 @@ fn main_word(user: u8, first: bool, second: bool, third: bool, fourth: bool, eve
     ensures { result ≡ main_word user first second third fourth event }
 {
     let channels = weigh(fourth, 128) + weigh(third, 64) + weigh(second, 32) + weigh(first, 16);
-    (2048 + registers::zero_based(user) as u32 % 8 * 256 + channels + weigh(event, 8)) as u16
+    (2048 + u32::from(registers::zero_based(user)) % 8 * 256 + channels + weigh(event, 8)) as u16
 }
 
 // A channel's bit in a Main status.
-fn main_bit(named: Channel, polling: bool) -> bool
-    ensures { result ≡ main_bit named polling }
+fn main_bit(channel: &Channel, polling: bool) -> bool
+    ensures { result ≡ main_bit channel.now polling }
 {
-    channel::take_main(named, polling).bit
-}
-
-#[tactic(auto, unfolding(crate::specs::Main::main_stored))]
-fn main_stored(main: Main, offset: u16, value: u16) -> Main
-    ensures { result ≡ main_stored main offset value }
-{
-    let mut stored = main;
-    if offset == 0x22 {
-        stored.level = (value % 8) as u8;
-        return stored;
+    if polling {
+        channel.status.polling.main
+    } else {
+        channel.status.interrupt.main
     }
-    if offset == 0x24 {
-        stored.vector = value;
-        return stored;
-    }
-    if offset == 0x26 {
-        stored.enable = status::kept_enable(value % 256);
-        return stored;
-    }
-    stored
 }
 
 impl Board {
@@ -85,10 +78,9 @@ impl Board {
     pub fn opened(n: u32, m: u32) -> Board
         ensures { result ≡ opened n m }
     {
-        let channel = Channel::opened();
         Board {
-            n: n,
-            m: m,
+            n,
+            m,
             user: 1,
             main: Main {
                 level: 0,
@@ -97,172 +89,154 @@ impl Board {
                 interrupt: false,
                 polling: false,
             },
-            channels: [channel, channel, channel, channel],
+            channels: [Channel::opened(); 4],
         }
     }
 
-    // Channel 1 to 4.
-    pub fn channel(self, number: u8) -> Channel
-        ensures { result ≡ channel_at self number }
+    // Refused where the setpoints are not 64 words to the depth.
+    pub fn check_setpoints(&self, setpoints: &[u32]) -> Result<(), Refusal>
+        ensures { setpoints_checked result self.now (length setpoints.now) }
     {
-        let index = registers::zero_based(number) as usize;
-        if index < 4 {
-            return self.channels[index];
+        if setpoints.len() == self.n as usize * 64 {
+            Ok(())
+        } else {
+            Err(Refusal::SizeMismatch)
         }
-        Channel::opened()
     }
 
-    // The board with channel 1 to 4 replaced.
-    pub fn with_channel(self, number: u8, channel: Channel) -> Board
-        ensures { result ≡ with_channel_at self number channel }
+    // Refused where the readbacks are not 8 words to the depth.
+    pub fn check_readbacks(&self, readbacks: &[u32]) -> Result<(), Refusal>
+        ensures { readbacks_checked result self.now (length readbacks.now) }
     {
-        let index = registers::zero_based(number) as usize;
-        let mut b = self;
-        if index < 4 {
-            b.channels[index] = channel;
+        if readbacks.len() == self.m as usize * 8 {
+            Ok(())
+        } else {
+            Err(Refusal::SizeMismatch)
         }
-        b
     }
 
-    pub fn with_user(self, user: u8) -> Board
-        ensures { result ≡ with_user self user }
+    // Where the setpoints of the channel at an index lie; past the fourth there is none, and the fourth's is meant.
+    pub fn setpoint_part(&self, index: usize) -> Range<usize>
+        ensures start { result.start ≡ min index 3 * setpoint_size self.now }
+        ensures end { result.end ≡ min index 3 * setpoint_size self.now + setpoint_size self.now }
+        ensures within { result.end ≤ self.now.n * 64 }
     {
-        let mut b = self;
-        b.user = user;
-        b
+        part(index.min(3), self.n as usize * 16)
+    }
+
+    // Where the readbacks of the channel at an index lie; so too.
+    pub fn readback_part(&self, index: usize) -> Range<usize>
+        ensures start { result.start ≡ min index 3 * readback_size self.now }
+        ensures end { result.end ≡ min index 3 * readback_size self.now + readback_size self.now }
+        ensures within { result.end ≤ self.now.m * 8 }
+    {
+        part(index.min(3), self.m as usize * 2)
     }
 
     // An event came: D3 of both Main statuses.
-    pub fn event_came(self) -> Board
-        ensures { result ≡ event_came self }
+    pub fn note_event(&mut self)
+        ensures { self.new ≡ event_came self.old }
     {
-        let mut b = self;
-        let mut main = b.main;
-        main.interrupt = true;
-        main.polling = true;
-        b.main = main;
-        b
+        self.main.interrupt = true;
+        self.main.polling = true;
     }
 
-    // Main's Interrupt Status, or its Polling Status.
+    // Main's Interrupt Status, or its Polling Status. The definitions name the four channels, and take a Bool for the copy.
     #[tactic(auto, unfolding(crate::specs::Main::main_status))]
-    fn main_status(self, polling: bool) -> u16
-        ensures { result ≡ main_status self polling }
+    fn main_status(&self, polling: bool) -> u16
+        ensures { result ≡ main_status self.now polling }
     {
-        let main = self.main;
-        let first = main_bit(self.channel(1), polling);
-        let second = main_bit(self.channel(2), polling);
-        let third = main_bit(self.channel(3), polling);
-        let fourth = main_bit(self.channel(4), polling);
-        if polling {
-            return main_word(self.user, first, second, third, fourth, main.polling);
-        }
-        main_word(self.user, first, second, third, fourth, main.interrupt)
-    }
-
-    // A channel's bit of a Main status cleared.
-    #[tactic(auto, unfolding(crate::specs::Main::taken_at))]
-    fn taken(self, number: u8, polling: bool) -> Board
-        ensures { result ≡ taken_at self number polling }
-    {
-        let taken = channel::take_main(self.channel(number), polling);
-        let changed = taken.channel;
-        self.with_channel(number, changed)
+        main_word(
+            self.user,
+            main_bit(&self.channels[0], polling),
+            main_bit(&self.channels[1], polling),
+            main_bit(&self.channels[2], polling),
+            main_bit(&self.channels[3], polling),
+            if polling {
+                self.main.polling
+            } else {
+                self.main.interrupt
+            },
+        )
     }
 
     // A Main status read: D7-D3 of that copy clear.
-    #[tactic(auto, unfolding(crate::specs::Main::status_read, crate::specs::Main::taken_at))]
-    fn status_read(self, polling: bool) -> Board
-        ensures { result ≡ status_read self polling }
+    #[tactic(auto, unfolding(crate::specs::Main::status_read, crate::specs::Main::taken_at), using(crate::proofs::Taken::one_more))]
+    fn clear_status(&mut self, polling: bool)
+        ensures { self.new ≡ status_read self.old polling }
     {
-        let mut b = self
-            .taken(1, polling)
-            .taken(2, polling)
-            .taken(3, polling)
-            .taken(4, polling);
-        let mut main = b.main;
-        if polling {
-            main.polling = false;
-            b.main = main;
-            return b;
+        for index in 0..4 {
+            channel::take_main(&mut self.channels[index], polling);
         }
-        main.interrupt = false;
-        b.main = main;
-        b
+        if polling {
+            self.main.polling = false;
+        } else {
+            self.main.interrupt = false;
+        }
     }
 
     // A write to Level, Vector or Enable.
-    #[tactic(auto, unfolding(crate::specs::Main::main_written))]
-    pub fn main_written(self, offset: u16, value: u16) -> Board
-        ensures { result ≡ main_written self offset value }
+    #[tactic(auto, unfolding(crate::specs::Main::main_written, crate::specs::Main::main_stored))]
+    pub fn write_main(&mut self, offset: u16, value: u16)
+        ensures { self.new ≡ main_written self.old offset value }
     {
-        let mut b = self;
-        let main = b.main;
-        b.main = main_stored(main, offset, value);
-        b
+        match offset {
+            0x22 => self.main.level = (value % 8) as u8,
+            0x24 => self.main.vector = value,
+            0x26 => self.main.enable = status::kept_enable(value % 256),
+            _ => {}
+        }
     }
 
     // What a read of a Main register shows.
     #[tactic(auto, unfolding(crate::specs::Main::main_value))]
-    pub fn main_value(self, offset: u16) -> u16
-        ensures { result ≡ main_value self offset }
+    fn main_value(&self, offset: u16) -> u16
+        ensures { result ≡ main_value self.now offset }
     {
-        let main = self.main;
-        if offset == 0x22 {
-            return main.level as u16;
+        match offset {
+            0x22 => u16::from(self.main.level),
+            0x24 => self.main.vector,
+            0x26 => self.main.enable,
+            _ => self.main_status(offset == 0x2a),
         }
-        if offset == 0x24 {
-            return main.vector;
-        }
-        if offset == 0x26 {
-            return main.enable;
-        }
-        self.main_status(offset == 0x2a)
     }
 
-    // The board after a read of a Main register.
+    // A read of a Main register: what it shows; a status read clears.
     #[tactic(auto, unfolding(crate::specs::Main::main_read))]
-    pub fn main_read(self, offset: u16) -> Board
-        ensures { result ≡ main_read self offset }
+    pub fn read_main(&mut self, offset: u16) -> u16
+        ensures next { self.new ≡ main_read self.old offset }
+        ensures value { result ≡ main_value self.old offset }
     {
-        if offset == 0x28 {
-            return self.status_read(false);
+        let value = self.main_value(offset);
+        match offset {
+            0x28 => self.clear_status(false),
+            0x2a => self.clear_status(true),
+            _ => {}
         }
-        if offset == 0x2a {
-            return self.status_read(true);
-        }
-        self
+        value
     }
 
     // Whether a channel's bit of Main's Interrupt Status is set and enabled.
-    fn interrupts(self, number: u8, bit: u8) -> bool
-        ensures { result ≡ enabled_bit (channel_at self number) self.main.enable bit }
+    fn interrupts(&self, index: usize, bit: u32) -> bool
+        requires { index < 4 }
+        ensures { result ≡ enabled_bit (channel_at self.now (index + 1)) self.now.main.enable bit }
     {
-        if main_bit(self.channel(number), false) {
-            let main = self.main;
-            return status::is_set(main.enable, bit);
-        }
-        false
+        main_bit(&self.channels[index], false) && status::is_set(self.main.enable, bit)
     }
 
     // Level, if a channel's interrupt is set and enabled.
     #[tactic(auto, unfolding(crate::specs::Main::level_of))]
-    pub fn interrupt_level(self) -> u8
-        ensures { result ≡ level_of self }
+    pub fn interrupt_level(&self) -> u8
+        ensures { result ≡ level_of self.now }
     {
-        let main = self.main;
-        if self.interrupts(1, 4) {
-            return main.level;
+        if self.interrupts(0, 4)
+            || self.interrupts(1, 5)
+            || self.interrupts(2, 6)
+            || self.interrupts(3, 7)
+        {
+            self.main.level
+        } else {
+            0
         }
-        if self.interrupts(2, 5) {
-            return main.level;
-        }
-        if self.interrupts(3, 6) {
-            return main.level;
-        }
-        if self.interrupts(4, 7) {
-            return main.level;
-        }
-        0
     }
 }

@@ -1,3 +1,4 @@
 pub mod Script
 pub mod Pool
 pub mod Roles
+pub mod Kinds

@@ -1,9 +1,5 @@
 -- The two pools of words (tests/CALLS.md): how they are filled (Header), and their digest (The end).
-use Rattle.std.specs.Prelude.{◌≡◌, ℕ, ◌+◌, ◌*◌, ◌/◌, ◌%◌, ◌^◌, ◌≤◌, List, length, take, bit_xor}
-
--- n counts words at the start of xs; the second part follows from the first, and the proof that Rattle makes of `&words[..n]` wants both
-abbrev pub Counts : ℕ → List ℕ → Type 0
-Counts n xs = (n ≤ length xs) × (n ≡ length (take n xs))
+use Rattle.std.specs.Prelude.{ℕ, ◌+◌, ◌*◌, ◌/◌, ◌%◌, ◌^◌, bit_xor}
 
 -- "in 32 bits, s ^= s << 13, s ^= s >> 17, s ^= s << 5"
 unfoldable pub left13 : ℕ → ℕ

@@ -1,5 +1,5 @@
 -- Who makes a record's call, and the rights that an opening gives (tests/CALLS.md, Seats).
-use Rattle.std.specs.Prelude.{ℕ, ◌+◌, ◌/◌, ◌%◌, ◌^◌, Bool, cond, ◌==◌}
+use Rattle.std.specs.Prelude.{ℕ, ◌+◌, ◌/◌, ◌%◌, ◌^◌, Bool, cond, List, [], ◌∷◌, ◌==◌}
 use Rattle.permissions.specs.declared.Role.{Role}
 use Rattle.permissions.specs.declared.Role.TheVariants as role
 use Rattle.permissions.specs.declared.Rights.{Rights}
@@ -23,8 +23,6 @@ channel_rights candidate watcher channel = record { candidate = rights_in candid
 abbrev pub board_rights : (candidate watcher : ℕ) → BoardRights
 board_rights candidate watcher =
     record {
-      first = channel_rights candidate watcher 0;
-      second = channel_rights candidate watcher 1;
-      third = channel_rights candidate watcher 2;
-      fourth = channel_rights candidate watcher 3;
+      channels =
+          channel_rights candidate watcher 0 ∷ channel_rights candidate watcher 1 ∷ channel_rights candidate watcher 2 ∷ channel_rights candidate watcher 3 ∷ [];
     }

@@ -1,14 +1,14 @@
 -- A script's bytes (tests/CALLS.md: its head, Header, Records). "All numbers are unsigned and little-endian."
-use Rattle.std.specs.Prelude.{ℕ, ◌+◌, ◌-◌, ◌*◌, ◌/◌, ◌%◌, cond, List, ◌==◌, nat_lt, slice_index}
+use Rattle.std.specs.Prelude.{ℕ, ◌+◌, ◌-◌, ◌*◌, ◌/◌, ◌%◌, Option, Some, None, cond, List, ◌==◌, nat_lt, slice_index}
 use Rattle.little_endian.specs.Numbers.{number32}
 use Rattle.call_script.specs.declared.script.Header.{Header}
 use Rattle.call_script.specs.declared.script.Record.{Record}
-use Rattle.call_script.specs.declared.script.Records.{Records}
-use Rattle.call_script.specs.declared.script.Records.TheVariants.{Count, Bad}
+use Rattle.call_script.specs.Kinds.{kind_of}
+use Rattle.call_script.specs.Roles.{role_of}
 
 -- "at most 65,536 bytes: a header of 16 bytes, then records of 16 bytes"; else the script is bad
-unfoldable pub records_of : ℕ → Records
-records_of size = cond (nat_lt size 16) Bad (cond (nat_lt 65536 size) Bad (cond (size % 16 == 0) (Count (size / 16 - 1)) Bad))
+unfoldable pub records_of : ℕ → Option ℕ
+records_of size = cond (nat_lt size 16) None (cond (nat_lt 65536 size) None (cond (size % 16 == 0) (Some (size / 16 - 1)) None))
 
 -- Header: N, M, seed, mask
 unfoldable pub header_of : List ℕ → Header
@@ -18,10 +18,10 @@ header_of s = record { n = number32 s 0; m = number32 s 4; seed = number32 s 8; 
 unfoldable pub record_at : List ℕ → ℕ → Record
 record_at s k =
     record {
-      kind = slice_index s (k * 16);
+      kind = kind_of (slice_index s (k * 16));
       channel = slice_index s (k * 16 + 1);
       lent = slice_index s (k * 16 + 2) % 16;
-      role = slice_index s (k * 16 + 2) / 16 % 4;
+      role = role_of (slice_index s (k * 16 + 2) / 16 % 4);
       buffer = slice_index s (k * 16 + 3);
       x = number32 s (k * 16 + 4);
       y = number32 s (k * 16 + 8);

@@ -4,6 +4,7 @@ ghost use Rattle.call_script.specs.Roles.{bit_at, role_of, rights_in, channel_ri
 
 use permissions::{BoardRights, ChannelRights, Rights, Role};
 
+// No `From`: neither type is of this crate.
 pub fn role(code: u8) -> Role
     ensures { result ≡ role_of code }
 {
@@ -47,9 +48,11 @@ pub fn board_rights(candidate: u8, watcher: u8) -> BoardRights
     ensures { result ≡ board_rights candidate watcher }
 {
     BoardRights {
-        first: channel_rights(candidate, watcher, 0),
-        second: channel_rights(candidate, watcher, 1),
-        third: channel_rights(candidate, watcher, 2),
-        fourth: channel_rights(candidate, watcher, 3),
+        channels: [
+            channel_rights(candidate, watcher, 0),
+            channel_rights(candidate, watcher, 1),
+            channel_rights(candidate, watcher, 2),
+            channel_rights(candidate, watcher, 3),
+        ],
     }
 }

@@ -2,20 +2,17 @@
 ghost use Rattle.std.specs.Prelude.{◌≡◌};
 ghost use Rattle.call_script.specs.Script.{records_of, header_of, record_at};
 
+use crate::kind::Kind;
+use crate::roles;
+use permissions::Role;
+
 // The header, and each record.
 const SIZE: usize = 16;
 
 // The most bytes a script has.
 const MOST: usize = 65536;
 
-// What a script's length says.
-#[derive(Clone, Copy)]
-pub enum Records {
-    Count(u16),
-    Bad,
-}
-
-#[derive(Clone, Copy)]
+#[derive(Clone, Copy, Debug, PartialEq, Eq)]
 pub struct Header {
     pub n: u32,
     pub m: u32,
@@ -23,14 +20,14 @@ pub struct Header {
     pub mask: u32,
 }
 
-#[derive(Clone, Copy)]
+#[derive(Clone, Copy, Debug, PartialEq, Eq)]
 pub struct Record {
-    pub kind: u8,
+    pub kind: Kind,
     pub channel: u8,
-    // The low 4 bits of its byte.
+    // The low 4 bits of its byte: a code, since it stands for a `Lent` or for `Buffers`, by the kind.
     pub lent: u8,
-    // D5 and D4 of it.
-    pub role: u8,
+    // Who makes the call: D5 and D4 of it.
+    pub role: Role,
     pub buffer: u8,
     pub x: u32,
     pub y: u32,
@@ -39,19 +36,14 @@ pub struct Record {
 
 // How many records a script of this length has, if it can be this long.
 #[tactic(auto, unfolding(crate::specs::Script::records_of))]
-pub fn records_of(size: usize) -> Records
+pub fn records_of(size: usize) -> Option<u16>
     ensures { result ≡ records_of size }
 {
-    if size < SIZE {
-        return Records::Bad;
+    if (SIZE..=MOST).contains(&size) && size % SIZE == 0 {
+        Some((size / SIZE - 1) as u16)
+    } else {
+        None
     }
-    if MOST < size {
-        return Records::Bad;
-    }
-    if size % SIZE != 0 {
-        return Records::Bad;
-    }
-    Records::Count((size / SIZE - 1) as u16)
 }
 
 #[tactic(auto, unfolding(crate::specs::Script::header_of))]
@@ -71,13 +63,13 @@ pub fn header_of(script: &[u8]) -> Header
 pub fn record_at(script: &[u8], number: u16) -> Record
     ensures { result ≡ record_at script.now number }
 {
-    let at = number as u32 * 16;
+    let at = u32::from(number) * 16;
     let codes = little_endian::byte_at(script, at + 2);
     Record {
-        kind: little_endian::byte_at(script, at),
+        kind: Kind::from(little_endian::byte_at(script, at)),
         channel: little_endian::byte_at(script, at + 1),
         lent: codes % 16,
-        role: codes / 16 % 4,
+        role: roles::role(codes / 16 % 4),
         buffer: little_endian::byte_at(script, at + 3),
         x: little_endian::u32_at(script, at + 4),
         y: little_endian::u32_at(script, at + 8),

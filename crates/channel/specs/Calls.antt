@@ -29,6 +29,10 @@ then first second = cond (eqb first 0) second first
 abbrev pub outside : ℕ → ℕ → ℕ → Bool
 outside low high x = ltb x low || ltb high x
 
+-- 2, of a number out of range
+abbrev pub range_refusal : (low high : ℕ) → ℕ → ℕ
+range_refusal low high x = cond (outside low high x) (number_of refusal.OutOfRange) 0
+
 -- the active one of a user's setpoint buffers, 1 or 2
 abbrev pub active_buffer : Registers → ℕ → ℕ
 active_buffer r user = cond (second_active r (user - 1)) 2 1

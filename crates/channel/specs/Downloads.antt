@@ -2,7 +2,7 @@
 use Rattle.std.specs.Prelude.{ℕ, cond, List, [], length, eqb}
 use Rattle.registers.specs.Map.{second_active, readback_place}
 use Rattle.readback.specs.Storing.{retired_part}
-use Rattle.downloads.specs.Portions.{download_of, portion_of}
+use Rattle.downloads.specs.Portions.{download_of, count_of, portion_of}
 use Rattle.downloads.specs.Portions as download
 use Rattle.channel_core.specs.declared.Channel.{Channel}
 use Rattle.channel_core.specs.Answers.{Answer, unless}
@@ -23,7 +23,7 @@ portion_refusal c m index size one two = then (retired_refusal m one two) (downl
 
 -- the retired part of these buffers, by the count that the download remembers
 abbrev pub download_part : Channel → (one two : List ℕ) → List ℕ
-download_part c one two = retired_part (second_active c.registers readback_place) c.download.count one two
+download_part c one two = retired_part (second_active c.registers readback_place) (count_of c.download) one two
 
 -- "the empty part when refused"
 unfoldable pub portion_words : Channel → (m index size : ℕ) → (one two : List ℕ) → List ℕ

@@ -1,14 +1,12 @@
 -- Document 01, 'Calls' and 'A channel's life': what calls answer, in its own numbers and values, and which of them each case of an answer in the code stands for.
-use Rattle.std.specs.Prelude.{ℕ, Bool, true, false, cond, List, [], eqb}
+use Rattle.std.specs.Prelude.{ℕ, Bool, true, false, cond, List, [], eqb, Option, Some, None, Ok, Err}
+use Rattle.std.specs.Prelude as prelude
+use Rattle.refusal.specs.declared.Refusal.{Refusal}
 use Rattle.refusal.specs.Refusals.{number_of}
 use Rattle.tick_outcome.specs.declared.TickOutcome.{TickOutcome}
 use Rattle.tick_outcome.specs.declared.TickOutcome.TheVariants as tick
 use Rattle.channel_core.specs.Results.{Result, AdcReading, TickReason}
 use Rattle.channel_core.specs.Results as result
-use Rattle.channel_core.specs.declared.Line.{Line}
-use Rattle.channel_core.specs.declared.Line.TheVariants as line
-use Rattle.channel_core.specs.declared.Outcome.{Outcome}
-use Rattle.channel_core.specs.declared.Outcome.TheVariants as outcome
 
 -- A new kind of result is a case of `Result`, and a name for it here, unless a definition by cases on an answer has to tell it from the others.
 pub data Answer : Type 0 where
@@ -59,14 +57,14 @@ abbrev pub unless : ℕ → Answer → Answer
 unless k a = cond (eqb k 0) a (refused k)
 
 -- the answer of a tick
-abbrev pub line_of : Line → Answer
-line_of line.Silent = none
-line_of (line.Frame f) = frame f
+abbrev pub line_of : Option ℕ → Answer
+line_of None = none
+line_of (Some f) = frame f
 
 -- the answer of a call that has nothing to tell but that it was done
-abbrev pub outcome_of : Outcome → Answer
-outcome_of outcome.Done = done
-outcome_of (outcome.Refused k) = refused (number_of k)
+abbrev pub outcome_of : prelude.Result Unit Refusal → Answer
+outcome_of (Ok u) = done
+outcome_of (Err k) = refused (number_of k)
 
 -- the name of what a tick did
 abbrev pub reason_of : TickOutcome → TickReason

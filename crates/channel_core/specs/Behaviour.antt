@@ -1,7 +1,7 @@
 -- Document 01, 'A channel's life': what a channel does, over its own part of the lent memory (16 × N setpoint words, 2 × M readback words).
 -- Document 02, card 1: command frames, at a tick and a Group End; card 2: what a setpoint send latches for the send before it; card 3: an end word at
 -- every Group End; card 6: tags; card 8: a Group End ends the download; card 10: what a tick did.
-use Rattle.std.specs.Prelude.{ℕ, ◌+◌, ◌-◌, ◌*◌, ◌%◌, Bool, true, false, cond, List, get_or, eqb}
+use Rattle.std.specs.Prelude.{ℕ, ◌+◌, ◌-◌, ◌*◌, ◌%◌, Bool, true, false, cond, List, get_or, eqb, Option}
 use Rattle.frame.specs.Frames.{encoded}
 use Rattle.status.specs.declared.Status.{Status}
 use Rattle.status.specs.Bits.{bit_at, bit_of}
@@ -12,9 +12,8 @@ use Rattle.registers.specs.Map as reg
 use Rattle.downloads.specs.Portions.{no_download}
 use Rattle.sequencer.specs.declared.LastSend.{LastSend}
 use Rattle.sequencer.specs.declared.Sequencer.{Sequencer}
-use Rattle.sequencer.specs.declared.Transmission.{Transmission}
-use Rattle.sequencer.specs.declared.Transmission.TheVariants as transmission
-use Rattle.sequencer.specs.declared.Ticked as t
+use Rattle.sequencer.specs.Transmissions.{Transmission}
+use Rattle.sequencer.specs.Transmissions as transmission
 use Rattle.sequencer.specs.Playing.{is_idle, unfinished, idled, shortfall, ticked}
 use Rattle.sequencer.specs.Playing as seq
 use Rattle.tick_outcome.specs.declared.TickOutcome.{TickOutcome}
@@ -135,7 +134,7 @@ unfoldable pub due_of : Channel → List ℕ → ℕ → ℕ → ℕ
 due_of c s n user = get_or s (setpoint_place (user - 1) (bit_of (second_active c.registers (user - 1))) n c.sequencer.index) 0
 
 -- the sequencer's share of a tick
-abbrev pub played_of : Channel → List ℕ → ℕ → ℕ → t.Ticked
+abbrev pub played_of : Channel → List ℕ → ℕ → ℕ → transmission.Ticked
 played_of c s n user = ticked c.sequencer (due_of c s n user) n (period_of c.registers.clock) c.registers.id
 
 -- card 2: "Each shortfall latches D4 of both channel statuses."; so many replies are missing, 0 is no shortfall
@@ -151,7 +150,7 @@ abbrev pub latched_by : Status → ℕ → ℕ → Status
 latched_by s missing k = condition_status (shortfall_status s missing) k
 
 -- the status with what a send latches: it "first looks at the setpoint send before it since idle", which is `last`
-abbrev pub send_status : Status → LastSend → Transmission → Status
+abbrev pub send_status : Status → Option LastSend → Transmission → Status
 send_status s last transmission.Nothing = s
 send_status s last (transmission.Word word k) = latched_by s (shortfall last) k
 

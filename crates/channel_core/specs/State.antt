@@ -10,7 +10,7 @@
 -- Card 7: the ADC words of "its last setpoint send", as far as replies to it have come    adc (crate `adc_words`)
 -- Card 8: the download, and the retired count that it "remembers"    download (crate `downloads`)
 -- Card 10: "what the last tick did"    outcome (crate `tick_outcome`)
-use Rattle.std.specs.Prelude.{ℕ}
+use Rattle.std.specs.Prelude.{ℕ, Option}
 use Rattle.status.specs.declared.Status.{Status}
 use Rattle.status.specs.Latching as st
 use Rattle.registers.specs.declared.Registers.{Registers}
@@ -60,7 +60,7 @@ abbrev pub with_adc : Channel → AdcWords → Channel
 with_adc c w =
     record { status = c.status; registers = c.registers; sequencer = c.sequencer; readbacks = c.readbacks; adc = w; download = c.download; outcome = c.outcome; commands = c.commands }
 
-abbrev pub with_download : Channel → Download → Channel
+abbrev pub with_download : Channel → Option Download → Channel
 with_download c d =
     record { status = c.status; registers = c.registers; sequencer = c.sequencer; readbacks = c.readbacks; adc = c.adc; download = d; outcome = c.outcome; commands = c.commands }
 

@@ -1,86 +1,106 @@
 // One tick of a channel: the sequencer's, what a send latches and shows, a command frame that is due, and what the tick did.
-ghost use Rattle.std.specs.Prelude.{◌≡◌};
-ghost use Rattle.channel_core.specs.Answers.{line_of, is_frame};
-ghost use Rattle.channel_core.specs.State.{with_outcome};
-ghost use Rattle.channel_core.specs.Behaviour.{due_of, tick_of, tick_answer};
+ghost use Rattle.std.specs.Prelude.{◌≡◌, ◌%◌, get_or};
+ghost use Rattle.frame.specs.Frames.{encoded};
+ghost use Rattle.status.specs.Bits.{bit_of};
+ghost use Rattle.sequencer.specs.Transmissions.{transmission_of, condition_number};
+ghost use Rattle.channel_core.specs.Answers.{line_of};
+ghost use Rattle.channel_core.specs.Behaviour.{setpoint_place, shortfall_status, latched_by, send_status, tick_line, due_of, tick_of, tick_answer};
 
-use crate::{Channel, Line, Ticked, send_line, send_status, sends, setpoint_place, word_at};
-use tick_outcome::TickOutcome;
+use crate::Channel;
+use command_frames::CommandFrames;
+use sequencer::{Clock, Sent, Sequencer};
+use status::{Condition, Status};
 
-// Whether a tick sends a frame, a setpoint's or a command frame.
-fn is_frame(line: Line) -> bool
-    ensures { result ≡ is_frame (line_of line) }
+// Where a setpoint lies in the channel's own words; user and buffer from 0.
+pub fn setpoint_place(user: u8, second: bool, n: u32, index: u32) -> usize
+    ensures { result ≡ setpoint_place user (bit_of second) n index }
 {
-    match line {
-        Line::Silent => false,
-        Line::Frame(_) => true,
+    (user as usize * 2 + usize::from(second)) * n as usize + index as usize
+}
+
+// A word of a slice, and 0 past its end.
+pub fn word_at(words: &[u32], at: usize) -> u32
+    ensures { result ≡ get_or words.now at 0 }
+{
+    words.get(at).copied().unwrap_or(0)
+}
+
+// D4 latched where so many replies are missing, and nothing where none is.
+fn latch_shortfall(status: &mut Status, missing: u8)
+    ensures { status.new ≡ shortfall_status status.old missing }
+{
+    if missing != 0 {
+        status.latch(Condition::MissingReadback);
+    }
+}
+
+// What is latched for missing replies, and for the condition of a word.
+#[tactic(auto, using(status::proofs::Laws::condition_some))]
+pub fn latch_by(status: &mut Status, missing: u8, condition: Option<Condition>)
+    ensures { status.new ≡ latched_by status.old missing (condition_number condition) }
+{
+    latch_shortfall(status, missing);
+    if let Some(condition) = condition {
+        status.latch(condition);
+    }
+}
+
+// What a send latches, `before` being the sequencer just before it.
+fn latch_send(status: &mut Status, before: &Sequencer, sent: Option<Sent>)
+    ensures { status.new ≡ send_status status.old before.now.last (transmission_of sent) }
+{
+    if let Some(sent) = sent {
+        latch_by(status, before.shortfall(), sent.condition);
+    }
+}
+
+// The frame of a setpoint: the Frame ID, D15-D0 of the word, auxiliary 0.
+pub fn setpoint_frame(id: u8, word: u32) -> u64
+    ensures { result ≡ encoded id (word % 65536) 0 }
+{
+    frame::encode(id, (word % 65536) as u16, 0)
+}
+
+// The frame of what a tick sends: a setpoint's, a command frame that is due, or none.
+fn send_frame(id: u8, commands: &CommandFrames, sent: Option<Sent>) -> Option<u64>
+    ensures { line_of result ≡ tick_line id commands.now (transmission_of sent) }
+{
+    match sent {
+        Some(sent) => Some(setpoint_frame(id, sent.word)),
+        None if commands.is_due() => Some(commands.frame()),
+        None => None,
     }
 }
 
 impl Channel {
     // The word at the index due, of the current user's active buffer.
     #[tactic(auto, unfolding(crate::specs::Behaviour::due_of))]
-    fn due(self, setpoints: &[u32], n: u32, user: u8) -> u32
-        ensures { result ≡ due_of self setpoints.now n user }
+    fn due(&self, setpoints: &[u32], n: u32, user: u8) -> u32
+        ensures { result ≡ due_of self.now setpoints.now n user }
     {
-        let registers = self.registers;
-        let sequencer = self.sequencer;
-        let at = setpoint_place(
-            registers::zero_based(user),
-            registers.second_active(user),
-            n,
-            sequencer.index,
-        );
+        let second = self.registers.second_active(user);
+        let at = setpoint_place(registers::zero_based(user), second, n, self.sequencer.index);
         word_at(setpoints, at)
     }
 
-    // With what its last tick did. Made anew: a field that is an enum is not stored to.
-    pub fn with_outcome(self, outcome: TickOutcome) -> Channel
-        ensures { result ≡ with_outcome self outcome }
-    {
-        let status = self.status;
-        let registers = self.registers;
-        let sequencer = self.sequencer;
-        let readbacks = self.readbacks;
-        let adc = self.adc;
-        let download = self.download;
-        let commands = self.commands;
-        Channel {
-            status: status,
-            registers: registers,
-            sequencer: sequencer,
-            readbacks: readbacks,
-            adc: adc,
-            download: download,
-            outcome: outcome,
-            commands: commands,
-        }
-    }
-
     #[tactic(auto, unfolding(crate::specs::Behaviour::tick_of, crate::specs::Behaviour::tick_outcome_of, crate::specs::Behaviour::tick_answer))]
-    pub fn tick(self, setpoints: &[u32], n: u32, user: u8) -> Ticked
-        ensures { (result.channel ≡ tick_of self setpoints.now n user) × (line_of result.line ≡ tick_answer self setpoints.now n user) }
+    pub fn tick(&mut self, setpoints: &[u32], n: u32, user: u8) -> Option<u64>
+        ensures next { self.new ≡ tick_of self.old setpoints.now n user }
+        ensures answer { line_of result ≡ tick_answer self.old setpoints.now n user }
     {
-        let registers = self.registers;
-        let sequencer = self.sequencer;
-        let status = self.status;
-        let commands = self.commands;
-        let ticked = sequencer.tick(
-            self.due(setpoints, n, user),
-            n,
-            registers::period(registers.clock),
-            registers.id,
-        );
-        let next = ticked.sequencer;
-        let sent = ticked.transmission;
-        let mut c = self;
-        c.status = send_status(status, sequencer.last, sent);
-        c.sequencer = next;
-        c.commands = commands.ticked(sends(sent));
-        let line = send_line(registers.id, commands, sent);
-        Ticked {
-            channel: c.with_outcome(tick_outcome::outcome(is_frame(line), sequencer)),
-            line: line,
-        }
+        let clock = Clock {
+            due: self.due(setpoints, n, user),
+            depth: n,
+            period: registers::period(self.registers.clock),
+            id: self.registers.id,
+        };
+        // What the tick latches, and what it did, goes by the state just before it.
+        let before = self.sequencer;
+        let sent = self.sequencer.tick(&clock);
+        let frame = send_frame(clock.id, &self.commands, sent);
+        latch_send(&mut self.status, &before, sent);
+        self.commands.tick(sent.is_some());
+        self.outcome = tick_outcome::outcome(frame.is_some(), &before);
+        frame
     }
 }

@@ -8,7 +8,8 @@ ghost use Rattle.channel_readings.specs.Measuring.{measured, readings_answer};
 use adc_words::AdcWord;
 use channel_core::Channel;
 
-#[derive(Clone, Copy)]
+// No Option or Result: document 01 names this form, an enum with an f64 case and two bare ones.
+#[derive(Clone, Copy, Debug, PartialEq)]
 pub enum Reading {
     Volts(f64),
     Lost,
@@ -17,7 +18,7 @@ pub enum Reading {
 }
 
 // The readings of the third to sixth replies.
-#[derive(Clone, Copy)]
+#[derive(Clone, Copy, Debug, PartialEq)]
 pub struct Readings {
     pub third: Reading,
     pub fourth: Reading,
@@ -26,35 +27,26 @@ pub struct Readings {
 }
 
 #[tactic(auto, unfolding(crate::specs::Measuring::measured))]
-fn measured(word: AdcWord) -> Reading
+fn measure(word: Option<AdcWord>) -> Reading
     ensures { adc_reading_of result ≡ measured word }
 {
-    if word.stored {
-        if word.right {
-            return Reading::Volts(codes::volts(word.data));
-        }
-        return Reading::Damaged;
+    match word {
+        None => Reading::Lost,
+        Some(word) if word.right => Reading::Volts(codes::volts(word.data)),
+        Some(_) => Reading::Damaged,
     }
-    Reading::Lost
 }
 
-// Those of the last send; the channel stays as it is.
+// Those of the last send.
 #[tactic(auto, unfolding(crate::specs::Measuring::readings_answer))]
-pub fn last_readings(c: Channel) -> Readings
-    ensures { readings_of result ≡ readings_answer c }
+pub fn last_readings(c: &Channel) -> Readings
+    ensures { readings_of result ≡ readings_answer c.now }
 {
-    let sequencer = c.sequencer;
-    let last = sequencer.last;
-    let words = c.adc;
-    let adc = words.arrived(last.replies);
-    let third = adc.third;
-    let fourth = adc.fourth;
-    let fifth = adc.fifth;
-    let sixth = adc.sixth;
+    let adc = c.adc.arrived(c.sequencer.last_send().replies);
     Readings {
-        third: measured(third),
-        fourth: measured(fourth),
-        fifth: measured(fifth),
-        sixth: measured(sixth),
+        third: measure(adc.third),
+        fourth: measure(adc.fourth),
+        fifth: measure(adc.fifth),
+        sixth: measure(adc.sixth),
     }
 }

@@ -1,4 +1,4 @@
-// The register write and the register read of one channel, over the channel by value and its own part of the lent memory.
+// The register write and the register read of one channel, over the channel and its own part of the lent memory.
 // They know no board and no other channel.
 #![tactic(auto)]
 
@@ -8,190 +8,104 @@ ghost use Rattle.channel_core.specs.Answers.{outcome_of};
 ghost use Rattle.channel_registers.specs.Answers.{read_outcome_of};
 ghost use Rattle.channel_registers.specs.Calls.{cannot_send, register_refusal, register_effect, register_words, written_of, written_answer, written_words, read_effect, read_value, read_of, read_answer};
 
-use channel_core::{Channel, Outcome};
-use refusal::{Refusal, Verdict};
-
-// The answer of a register read.
-#[derive(Clone, Copy)]
-pub enum ReadOutcome {
-    Value(u16),
-    Refused(Refusal),
-}
-
-#[derive(Clone, Copy)]
-pub struct Written {
-    pub channel: Channel,
-    pub outcome: Outcome,
-}
-
-#[derive(Clone, Copy)]
-pub struct Read {
-    pub channel: Channel,
-    pub outcome: ReadOutcome,
-}
+use channel_core::Channel;
+use refusal::Refusal;
+use sequencer::Stage;
 
 // Whether a write is one to FC with D0, while the channel is disarmed or not idle.
-fn cannot_send(c: Channel, offset: u16, value: u16) -> bool
-    ensures { result ≡ cannot_send c offset value }
+fn cannot_send(c: &Channel, offset: u16, value: u16) -> bool
+    ensures { result ≡ cannot_send c.now offset value }
 {
-    if offset != 0xfc {
-        return false;
-    }
-    if !status::is_set(value, 0) {
-        return false;
-    }
-    let sequencer = c.sequencer;
-    let stage = sequencer.stage;
-    if sequencer.armed {
-        return !sequencer::stages::is_idle(stage);
-    }
-    true
+    let ready = c.sequencer.armed && c.sequencer.stage == Stage::Idle;
+    offset == 0xfc && status::is_set(value, 0) && !ready
 }
 
 // Whether a write at an offset is refused: the access, then a function that is active, then the clock code.
 #[tactic(auto, unfolding(crate::specs::Calls::register_refusal))]
-fn write_check(c: Channel, offset: u16, value: u16) -> Verdict
-    ensures { verdict_number result ≡ register_refusal c offset value }
+fn check_write(c: &Channel, offset: u16, value: u16) -> Result<(), Refusal>
+    ensures { verdict_number result ≡ register_refusal c.now offset value }
 {
-    let verdict = register_map::write_verdict(register_map::channel_access(offset));
-    match verdict {
-        Verdict::Allowed => {
-            if cannot_send(c, offset, value) {
-                return Verdict::Refused(Refusal::FunctionActive);
-            }
-            if offset == 0x0a {
-                if 3 < value {
-                    return Verdict::Refused(Refusal::InvalidClock);
-                }
-            }
-            Verdict::Allowed
-        }
-        Verdict::Refused(refusal) => Verdict::Refused(refusal),
+    register_map::check_write(register_map::channel_access(offset))?;
+    if cannot_send(c, offset, value) {
+        Err(Refusal::FunctionActive)
+    } else if offset == 0x0a && 3 < value {
+        Err(Refusal::InvalidClock)
+    } else {
+        Ok(())
     }
 }
 
 // What an accepted write does.
 #[tactic(auto, unfolding(crate::specs::Calls::register_effect, crate::specs::Calls::register_words))]
-fn write_effect(c: Channel, words: &mut [u32], m: u32, offset: u16, value: u16) -> Channel
-    ensures { (result ≡ register_effect c offset value) × (words.new ≡ register_words c words.old m offset value) }
+fn write(c: &mut Channel, words: &mut [u32], m: u32, offset: u16, value: u16)
+    ensures next { c.new ≡ register_effect c.old offset value }
+    ensures words { words.new ≡ register_words c.old words.old m offset value }
 {
-    if offset == 0x00 {
-        let status = c.status;
-        let mut next = c;
-        next.status = status.enabled(value);
-        return next;
-    }
-    if offset == 0x06 {
-        if status::is_set(value, 0) {
-            return c.reset();
+    match offset {
+        0x00 => c.status.write_enable(value),
+        0x06 => {
+            if status::is_set(value, 0) {
+                c.reset();
+            }
         }
-        return c;
+        0x08 => c.command(words, m, value),
+        0xe0.. => c.commands.write(offset, value),
+        _ => c.registers.write(offset, value),
     }
-    if offset == 0x08 {
-        return c.command(words, m, value);
-    }
-    if offset >= 0xe0 {
-        let commands = c.commands;
-        let mut next = c;
-        next.commands = commands.stored(offset, value);
-        return next;
-    }
-    let registers = c.registers;
-    let mut next = c;
-    next.registers = registers.stored(offset, value);
-    next
 }
 
 #[tactic(auto, unfolding(crate::specs::Calls::written_of, crate::specs::Calls::written_answer, crate::specs::Calls::written_words))]
-pub fn write_register(c: Channel, words: &mut [u32], m: u32, offset: u16, value: u16) -> Written
-    ensures { (result.channel ≡ written_of c offset value) × (outcome_of result.outcome ≡ written_answer c offset value) × (words.new ≡ written_words c words.old m offset value) }
+pub fn write_register(
+    c: &mut Channel,
+    words: &mut [u32],
+    m: u32,
+    offset: u16,
+    value: u16,
+) -> Result<(), Refusal>
+    ensures next { c.new ≡ written_of c.old offset value }
+    ensures answer { outcome_of result ≡ written_answer c.old offset value }
+    ensures words { words.new ≡ written_words c.old words.old m offset value }
 {
-    let verdict = write_check(c, offset, value);
-    match verdict {
-        Verdict::Allowed => Written {
-            channel: write_effect(c, words, m, offset, value),
-            outcome: Outcome::Done,
-        },
-        Verdict::Refused(refusal) => Written {
-            channel: c,
-            outcome: Outcome::Refused(refusal),
-        },
-    }
+    check_write(c, offset, value)?;
+    write(c, words, m, offset, value);
+    Ok(())
 }
 
-// What a read at an offset shows.
+// What a read shows, before it clears anything.
 #[tactic(auto, unfolding(crate::specs::Calls::read_value))]
-fn read_value(c: Channel, offset: u16) -> u16
-    ensures { result ≡ read_value c offset }
+fn read(c: &Channel, offset: u16) -> u16
+    ensures { result ≡ read_value c.now offset }
 {
-    let status = c.status;
-    if offset == 0x00 {
-        return status.enable;
+    match offset {
+        0x00 => c.status.enable,
+        0x02 => status::word_of_bits(c.status.interrupt.bits),
+        0x04 => status::word_of_bits(c.status.polling.bits),
+        0x0c => u16::from(c.sequencer.missing),
+        0xe0.. => c.commands.read(offset),
+        _ => c.registers.read(offset),
     }
-    if offset == 0x02 {
-        let latches = status.interrupt;
-        let bits = latches.bits;
-        return status::word_of_bits(bits);
-    }
-    if offset == 0x04 {
-        let latches = status.polling;
-        let bits = latches.bits;
-        return status::word_of_bits(bits);
-    }
-    if offset == 0x0c {
-        let sequencer = c.sequencer;
-        return sequencer.missing as u16;
-    }
-    if offset >= 0xe0 {
-        let commands = c.commands;
-        return commands.loaded(offset);
-    }
-    let registers = c.registers;
-    registers.loaded(offset)
 }
 
 // A status read clears that copy; a read of 0C clears the count of missing readbacks.
 #[tactic(auto, unfolding(crate::specs::Calls::read_effect))]
-fn read_effect(c: Channel, offset: u16) -> Channel
-    ensures { result ≡ read_effect c offset }
+fn clear_read(c: &mut Channel, offset: u16)
+    ensures { c.new ≡ read_effect c.old offset }
 {
-    let mut status = c.status;
-    if offset == 0x02 {
-        let latches = status.interrupt;
-        status.interrupt = latches.cleared();
-        let mut next = c;
-        next.status = status;
-        return next;
+    match offset {
+        0x02 => c.status.interrupt.clear(),
+        0x04 => c.status.polling.clear(),
+        0x0c => c.sequencer.clear_missing(),
+        _ => {}
     }
-    if offset == 0x04 {
-        let latches = status.polling;
-        status.polling = latches.cleared();
-        let mut next = c;
-        next.status = status;
-        return next;
-    }
-    if offset == 0x0c {
-        let sequencer = c.sequencer;
-        let mut next = c;
-        next.sequencer = sequencer.missing_cleared();
-        return next;
-    }
-    c
 }
 
 #[tactic(auto, unfolding(crate::specs::Calls::read_of, crate::specs::Calls::read_answer))]
-pub fn read_register(c: Channel, offset: u16) -> Read
-    ensures { (result.channel ≡ read_of c offset) × (read_outcome_of result.outcome ≡ read_answer c offset) }
+pub fn read_register(c: &mut Channel, offset: u16) -> Result<u16, Refusal>
+    ensures next { c.new ≡ read_of c.old offset }
+    ensures answer { read_outcome_of result ≡ read_answer c.old offset }
 {
-    let verdict = register_map::read_verdict(register_map::channel_access(offset));
-    match verdict {
-        Verdict::Allowed => Read {
-            channel: read_effect(c, offset),
-            outcome: ReadOutcome::Value(read_value(c, offset)),
-        },
-        Verdict::Refused(refusal) => Read {
-            channel: c,
-            outcome: ReadOutcome::Refused(refusal),
-        },
-    }
+    register_map::check_read(register_map::channel_access(offset))?;
+    let value = read(c, offset);
+    clear_read(c, offset);
+    Ok(value)
 }

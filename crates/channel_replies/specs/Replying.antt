@@ -1,13 +1,13 @@
 -- Document 01, 'A channel's life': what a reply does to a channel, over the channel's own 2 × M readback words, and what it is answered.
 -- Document 02, card 1: replies to a command frame. Card 7: replies that are ADC words.
-use Rattle.std.specs.Prelude.{ℕ, Bool, true, false, cond, not, List}
+use Rattle.std.specs.Prelude.{ℕ, Bool, true, false, cond, not, List, Option}
 use Rattle.frame.specs.Frames.{Reading, refused, fields, read, crc_right}
 use Rattle.status.specs.declared.Status.{Status}
 use Rattle.status.specs.Latching.{latched, crc_error}
 use Rattle.registers.specs.Map.{second_active, readback_place}
 use Rattle.adc_words.specs.declared.AdcWord.{AdcWord}
 use Rattle.adc_words.specs.Positions.{adc_word, with_reply}
-use Rattle.sequencer.specs.Playing.{is_idle, answered}
+use Rattle.sequencer.specs.Playing.{is_idle, send_of, answered}
 use Rattle.readback.specs.declared.Disposition.{Disposition}
 use Rattle.readback.specs.declared.Disposition.TheVariants as disposition
 use Rattle.readback.specs.Storing.{disposition_of, stored_word, kept_in, kept_words}
@@ -33,9 +33,9 @@ receipt_answer disposition.Kept = ans.kept
 
 -- a reply that was due, kept or lost, "counts among the six", and its CRC is checked; `adc` is what is kept of it where its position,
 -- after those that came before it, is that of an ADC word
-abbrev pub reply_counted : Channel → Bool → AdcWord → Channel
+abbrev pub reply_counted : Channel → Bool → Option AdcWord → Channel
 reply_counted c right adc =
-    with_adc (with_sequencer (with_status c (crc_status c.status right)) (answered c.sequencer)) (with_reply c.adc c.sequencer.last.replies adc)
+    with_adc (with_sequencer (with_status c (crc_status c.status right)) (answered c.sequencer)) (with_reply c.adc (send_of c.sequencer.last).replies adc)
 
 -- the channel after it; an unasked one changes nothing. Card 7: "A reading is lost when its reply wasn't stored, with a wrong CRC or not."
 abbrev pub received_channel : Disposition → Channel → ℕ → Bool → ℕ → Channel
@@ -68,7 +68,7 @@ abbrev pub reply_words_as : Reading → Channel → List ℕ → ℕ → ℕ →
 reply_words_as (refused k) c s m user = s
 reply_words_as (fields id word aux crc) c s m user =
     cond (takes c.commands) s
-    (received_words (disposition_now c m) c s m (stored_word c.sequencer.last user (not (crc_right id word aux crc)) id word))
+    (received_words (disposition_now c m) c s m (stored_word (send_of c.sequencer.last) user (not (crc_right id word aux crc)) id word))
 
 -- a reply: what it is answered, the channel after it, and its readback words
 unfoldable pub reply_answer : Channel → ℕ → ℕ → Answer

@@ -1,159 +1,104 @@
-// A reply of one channel: what becomes of it, the word stored for it, and its answer, over the channel by value and its own part of the lent memory.
+// A reply of one channel: what becomes of it, the word stored for it, and its answer, over the channel and its own part of the lent memory.
 #![tactic(auto)]
 
 ghost use Rattle.std.specs.Prelude.{◌≡◌, not};
-ghost use Rattle.adc_words.specs.Positions.{adc_word};
+ghost use Rattle.sequencer.specs.Playing.{send_of};
 ghost use Rattle.readback.specs.Storing.{stored_word};
 ghost use Rattle.channel_replies.specs.Answers.{receipt_of};
-ghost use Rattle.channel_replies.specs.Replying.{disposition_now, crc_status, reply_counted, received_channel, receipt_answer, received_words, command_reply, reply_answer, reply_of, reply_words};
+ghost use Rattle.channel_replies.specs.Replying.{disposition_now, crc_status, reply_counted, received_channel, received_words, command_reply, reply_answer, reply_of, reply_words};
 
 use adc_words::AdcWord;
 use channel_core::Channel;
-use frame::Decoded;
-use readback::Disposition;
+use frame::Fields;
 use refusal::Refusal;
-use status::Status;
+use sequencer::Stage;
+use status::{Condition, Status};
 
-// The answer of a reply.
-#[derive(Clone, Copy)]
-pub enum Receipt {
-    Kept,
-    Lost,
-    // "unasked"
-    Unsolicited,
-    Refused(Refusal),
-}
+// The answer of a well-framed reply: what becomes of it.
+pub use readback::Disposition as Receipt;
 
-#[derive(Clone, Copy)]
-pub struct Received {
-    pub channel: Channel,
-    pub receipt: Receipt,
-}
-
-// The status after a reply that was kept or lost.
-fn crc_checked(status: Status, right: bool) -> Status
-    ensures { result ≡ crc_status status right }
+// What a reply that was kept or lost latches.
+fn latch_crc(status: &mut Status, right: bool)
+    ensures { status.new ≡ crc_status status.old right }
 {
-    if right {
-        return status;
+    if !right {
+        status.latch(Condition::CrcError);
     }
-    status.latched(status::CRC_ERROR)
 }
 
 // What becomes of a well-framed reply now that no command frame takes.
 #[tactic(auto, unfolding(crate::specs::Replying::disposition_now))]
-fn disposition(c: Channel, m: u32) -> Disposition
-    ensures { result ≡ disposition_now c m }
+fn dispose(c: &Channel, m: u32) -> Receipt
+    ensures { result ≡ disposition_now c.now m }
 {
-    let sequencer = c.sequencer;
-    let readbacks = c.readbacks;
-    let stage = sequencer.stage;
-    let last = sequencer.last;
-    readback::dispose(sequencer::stages::is_idle(stage), last, readbacks.stored, m)
-}
-
-// What is kept of a reply that may be an ADC word.
-fn arrival(stored: bool, right: bool, data: u16) -> AdcWord
-    ensures { result ≡ adc_word stored right «data» }
-{
-    AdcWord {
-        stored,
-        right,
-        data,
-    }
+    let idle = c.sequencer.stage == Stage::Idle;
+    readback::dispose(idle, c.sequencer.last, c.readbacks.stored, m)
 }
 
 // A reply that was due, kept or lost, is one of the six; its CRC is checked, and it may be an ADC word.
-fn counted(c: Channel, right: bool, word: AdcWord) -> Channel
-    ensures { result ≡ reply_counted c right word }
+fn count_reply(c: &mut Channel, right: bool, word: Option<AdcWord>)
+    ensures { c.new ≡ reply_counted c.old right word }
 {
-    let status = c.status;
-    let sequencer = c.sequencer;
-    let adc = c.adc;
-    let last = sequencer.last;
-    let mut next = c;
-    next.status = crc_checked(status, right);
-    next.sequencer = sequencer.answered();
-    next.adc = adc.with_reply(last.replies, word);
-    next
+    latch_crc(&mut c.status, right);
+    c.adc.add(c.sequencer.last_send().replies, word);
+    c.sequencer.count_reply();
 }
 
 // A well-framed reply that no command frame takes.
 fn receive(
-    c: Channel,
+    c: &mut Channel,
     words: &mut [u32],
     m: u32,
     user: u8,
-    id: u8,
-    data: u16,
+    fields: &Fields,
     right: bool,
-) -> Received
-    ensures { (result.channel ≡ received_channel (disposition_now c m) c m right «data») × (receipt_of result.receipt ≡ receipt_answer (disposition_now c m)) × (words.new ≡ received_words (disposition_now c m) c words.old m (stored_word c.sequencer.last user (not right) id «data»)) }
+) -> Receipt
+    ensures next { c.new ≡ received_channel (disposition_now c.old m) c.old m right fields.now.«data» }
+    ensures answer { result ≡ disposition_now c.old m }
+    ensures words { words.new ≡ received_words (disposition_now c.old m) c.old words.old m (stored_word (send_of c.old.sequencer.last) user (not right) fields.now.id fields.now.«data») }
 {
-    let disposition = disposition(c, m);
-    match disposition {
-        Disposition::Unsolicited => Received {
-            channel: c,
-            receipt: Receipt::Unsolicited,
-        },
-        Disposition::Lost => Received {
-            channel: counted(c, right, arrival(false, right, data)),
-            receipt: Receipt::Lost,
-        },
-        Disposition::Kept => {
-            let registers = c.registers;
-            let sequencer = c.sequencer;
-            let readbacks = c.readbacks;
-            let last = sequencer.last;
-            let word = readback::stored_word(last, user, !right, id, data);
-            let mut next = counted(c, right, arrival(true, right, data));
-            next.readbacks = readbacks.keep(words, registers.readback_second_active(), m, word);
-            Received {
-                channel: next,
-                receipt: Receipt::Kept,
-            }
+    let receipt = dispose(c, m);
+    match receipt {
+        Receipt::Unsolicited => {}
+        Receipt::Lost => count_reply(c, right, None),
+        Receipt::Kept => {
+            let data = fields.data;
+            let last = c.sequencer.last_send();
+            let word = readback::stored_word(&last, user, !right, fields.id, data);
+            let second = c.registers.readback_second_active();
+            c.readbacks.keep(words, second, m, word);
+            count_reply(c, right, Some(AdcWord { right, data }));
         }
     }
+    receipt
 }
 
 // A reply that goes to E4-FA; its CRC is checked.
-fn command_reply(c: Channel, id: u8, data: u16, right: bool) -> Channel
-    ensures { result ≡ command_reply c right id «data» }
+fn receive_command_reply(c: &mut Channel, fields: &Fields, right: bool)
+    ensures { c.new ≡ command_reply c.old right fields.now.id fields.now.«data» }
 {
-    let status = c.status;
-    let commands = c.commands;
-    let mut next = c;
-    next.status = crc_checked(status, right);
-    next.commands = commands.received(!right, id, data);
-    next
+    latch_crc(&mut c.status, right);
+    c.commands.receive(!right, fields.id, fields.data);
 }
 
 // A reply from the supply: to a command frame, as long as that takes it, else to a setpoint.
 #[tactic(auto, unfolding(crate::specs::Replying::reply_of, crate::specs::Replying::reply_answer, crate::specs::Replying::reply_words))]
-pub fn reply(c: Channel, words: &mut [u32], m: u32, user: u8, frame: u64) -> Received
-    ensures { (result.channel ≡ reply_of c m frame) × (receipt_of result.receipt ≡ reply_answer c m frame) × (words.new ≡ reply_words c words.old m user frame) }
+pub fn reply(
+    c: &mut Channel,
+    words: &mut [u32],
+    m: u32,
+    user: u8,
+    frame: u64,
+) -> Result<Receipt, Refusal>
+    ensures next { c.new ≡ reply_of c.old m frame }
+    ensures answer { receipt_of result ≡ reply_answer c.old m frame }
+    ensures words { words.new ≡ reply_words c.old words.old m user frame }
 {
-    let reading = frame::decode(frame);
-    match reading {
-        Decoded::FramingError => Received {
-            channel: c,
-            receipt: Receipt::Refused(Refusal::FramingError),
-        },
-        Decoded::Fields {
-            id,
-            data,
-            auxiliary,
-            crc,
-        } => {
-            let right = frame::crc_matches(id, data, auxiliary, crc);
-            let commands = c.commands;
-            if commands.takes() {
-                return Received {
-                    channel: command_reply(c, id, data, right),
-                    receipt: Receipt::Kept,
-                };
-            }
-            receive(c, words, m, user, id, data, right)
-        }
+    let fields = frame::decode(frame)?;
+    let right = fields.is_intact();
+    if c.commands.takes() {
+        receive_command_reply(c, &fields, right);
+        return Ok(Receipt::Kept);
     }
+    Ok(receive(c, words, m, user, &fields, right))
 }

@@ -1,3 +1,4 @@
 pub mod QuietTicks
+pub mod Conditions
 pub mod Once
 pub mod TicksInRow

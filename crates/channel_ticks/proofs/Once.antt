@@ -1,5 +1,4 @@
--- What ticks in a row latch and count can be said at their end: a word with a condition is repeated from then on, so no other has one; D4 latches in any
--- order with it, and once; the count of missing readbacks is its own beside the rest of the sequencer. Of any state. Assumes nothing.
+-- What ticks in a row latch and count can be said at their end: D4 latches in any order with the one condition of their words, and once; the count of missing readbacks is its own beside the rest of the sequencer. Of any state. Assumes nothing.
 use Prim.Native.Nat.{ℕ, ◌+◌, ◌-◌, ◌<◌}
 use mathlib.Core.Path.{◌≡◌, refl, ap, ◌∙◌}
 use mathlib.Core.Logic.{◌⊎◌, inl, inr}
@@ -10,119 +9,20 @@ use borrow.Author.Tests.{ne_eqb, eqb-true}
 use Rattle.status.specs.declared.Status.{Status}
 use Rattle.status.specs.Latching.{latched, missing_readback}
 use Rattle.status.proofs.Laws.{latched_swap, latched_twice}
-use Rattle.sequencer.specs.declared.Kind.{Kind}
-use Rattle.sequencer.specs.declared.Kind.TheVariants as kind
+use Rattle.std.specs.declared.option.Option.{Option}
 use Rattle.sequencer.specs.declared.LastSend.{LastSend}
 use Rattle.sequencer.specs.declared.Stage.{Stage}
 use Rattle.sequencer.specs.declared.Stage.TheVariants as stage
 use Rattle.sequencer.specs.declared.Sequencer.{Sequencer}
-use Rattle.sequencer.specs.declared.Transmission.{Transmission}
-use Rattle.sequencer.specs.declared.Transmission.TheVariants as transmission
-use Rattle.sequencer.specs.declared.Ticked.{Ticked}
-use Rattle.sequencer.specs.Words.{at_end, kind_of, stage_after, condition_of}
+use Rattle.sequencer.specs.Transmissions.{Transmission}
+use Rattle.sequencer.specs.Transmissions as transmission
+use Rattle.sequencer.specs.Transmissions.{Ticked}
 use Rattle.sequencer.specs.Playing.{shortfall, missing_with, with_left, with_resume, with_missing, sent_as, sent_next, repeated, quiet, advancing, repeating, resuming, ticked_at, ticked}
-use Rattle.sequencer.specs.Runs.{holds, missing_after}
+use Rattle.sequencer.specs.Runs.{missing_after}
 use Rattle.channel_core.specs.Behaviour.{shortfall_status, condition_status, latched_by, send_status, condition_in}
 use Rattle.channel_ticks.specs.Quiet.{quiet_at, quiet_ticks, after_quiet_at, after_quiet}
-use Rattle.channel_ticks.specs.Ticks.{condition_after}
+use Rattle.channel_ticks.proofs.Conditions.{condition_after}
 use Rattle.channel_ticks.proofs.QuietTicks.{ne_some}
-
--- ---- One word with a condition
-
--- a tick with a condition leaves a word that is repeated
-abbrev Settles : Ticked → Type 0
-Settles t = (condition_in t.transmission ≡ 0) ⊎ (holds t.sequencer.stage ≡ true)
-
-either_settles : (b : Bool) (x y : Ticked) → Settles x → Settles y → Settles (cond b x y)
-either_settles true x y p q = p
-either_settles false x y p q = q
-
-sent_settles : (s : Sequencer) (due n p id : ℕ) → Settles (sent_next s due n p id)
-unfolding sent_next sent_as
-sent_settles s due n p id = go (kind_of due (at_end n s.index))
-  where
-    go : (k : Kind) → (condition_of k ≡ 0) ⊎ (holds (stage_after k) ≡ true)
-    go kind.Plain = inl refl
-    go (kind.Pause k) = inr refl
-    go kind.Last = inr refl
-
-advancing_settles : (s : Sequencer) (due n p id : ℕ) → Settles (advancing s due n p id)
-unfolding advancing
-advancing_settles s due n p id =
-    either_settles (leb s.left 1) (sent_next s due n p id) (quiet (with_left s (s.left - 1))) (sent_settles s due n p id) (inl refl)
-
--- a repeat has none, and goes on
-repeating_none : (s : Sequencer) (p id : ℕ) → (condition_in (repeating s p id).transmission ≡ 0) × ((repeating s p id).sequencer.stage ≡ s.stage)
-unfolding repeating repeated
-repeating_none s p id = go (leb s.left 1)
-  where
-    go : (b : Bool)
-        → (condition_in (cond b (repeated s p id) (quiet (with_left s (s.left - 1)))).transmission ≡ 0)
-        × ((cond b (repeated s p id) (quiet (with_left s (s.left - 1)))).sequencer.stage ≡ s.stage)
-    go true = (refl, refl)
-    go false = (refl, refl)
-
-resuming_settles : (s : Sequencer) (due n p id : ℕ) → Settles (resuming s due n p id)
-unfolding resuming
-resuming_settles s due n p id =
-    let u = with_resume s (s.resume - 1) in
-    either_settles (leb s.resume 1) (sent_next s due n p id) (cond (leb s.resume 10) (quiet u) (repeating u p id)) (sent_settles s due n p id)
-    (either_settles (leb s.resume 10) (quiet u) (repeating u p id) (inl refl) (inl (repeating_none u p id).0))
-
-module _ (s : Sequencer) (due n p id : ℕ) where
-  pub settles : Settles (ticked s due n p id)
-  unfolding ticked
-  settles = go s.stage
-    where
-      go : (g : Stage) → Settles (ticked_at g s due n p id)
-      go stage.Idle = inl refl
-      go stage.Starting = advancing_settles s due n p id
-      go stage.Running = advancing_settles s due n p id
-      go (stage.Paused k) = inl (repeating_none s p id).0
-      go stage.Resuming = resuming_settles s due n p id
-      go stage.Ended = inl (repeating_none s p id).0
-
-  clash : {A : Type 0} → false ≡ true → A
-  clash e = absurd (let z : ◌≡◌ {A = ℕ} 0 1 = cc in omega arith)
-
-  settled : holds s.stage ≡ true
-      → (condition_in (ticked s due n p id).transmission ≡ 0) × (holds (ticked s due n p id).sequencer.stage ≡ true)
-  unfolding ticked
-  settled h = go s.stage h
-    where
-      repeats : (condition_in (repeating s p id).transmission ≡ 0) × (holds (repeating s p id).sequencer.stage ≡ true)
-      repeats = ((repeating_none s p id).0, ap holds (repeating_none s p id).1 ∙ h)
-
-      go : (g : Stage) → holds g ≡ true
-          → (condition_in (ticked_at g s due n p id).transmission ≡ 0) × (holds (ticked_at g s due n p id).sequencer.stage ≡ true)
-      go stage.Idle e = clash e
-      go stage.Starting e = clash e
-      go stage.Running e = clash e
-      go (stage.Paused k) e = repeats
-      go stage.Resuming e = clash e
-      go stage.Ended e = repeats
-
--- no condition so far, or a word that is repeated
-abbrev pub Once : ℕ → Sequencer → Type 0
-Once k s = (k ≡ 0) ⊎ (holds s.stage ≡ true)
-
--- so not two of them
-pub alone : (s : Sequencer) (due n p id k : ℕ) → Once k s → (condition_in (ticked s due n p id).transmission ≡ 0) ⊎ (k ≡ 0)
-alone s due n p id k (inl e) = inr e
-alone s due n p id k (inr h) = inl (settled s due n p id h).0
-
-pub once_next : (s : Sequencer) (due n p id k : ℕ) → Once k s
-    → Once (condition_after (ticked s due n p id).transmission k) (ticked s due n p id).sequencer
-once_next s due n p id k (inr h) = inr (settled s due n p id h).1
-once_next s due n p id k (inl e) = go (ticked s due n p id).transmission (settles s due n p id)
-  where
-    after : Stage
-    after = (ticked s due n p id).sequencer.stage
-
-    go : (x : Transmission) → (condition_in x ≡ 0) ⊎ (holds after ≡ true) → (condition_after x k ≡ 0) ⊎ (holds after ≡ true)
-    go x (inr h) = inr h
-    go transmission.Nothing (inl d) = inl e
-    go (transmission.Word word j) (inl d) = inl (ap (λ (y : ℕ). cond (eqb y 0) k y) d ∙ e)
 
 -- ---- What is latched
 
@@ -161,7 +61,7 @@ condition_both s k j (inr e) = rw e (go (eqb j 0) refl)
     go false d = rw d refl
 
 -- one tick more: as if all of it had latched at once
-pub latched_next : (s : Status) (missing k : ℕ) (l : LastSend) (x : Transmission) → (condition_in x ≡ 0) ⊎ (k ≡ 0)
+pub latched_next : (s : Status) (missing k : ℕ) (l : Option LastSend) (x : Transmission) → (condition_in x ≡ 0) ⊎ (k ≡ 0)
     → send_status (latched_by s missing k) l x ≡ latched_by s (missing_after x l missing) (condition_after x k)
 latched_next s missing k l transmission.Nothing h = refl
 latched_next s missing k l (transmission.Word word j) h =
@@ -171,13 +71,13 @@ latched_next s missing k l (transmission.Word word j) h =
 -- ---- What is counted
 
 -- added to what was counted before
-pub missing_next : (before missing : ℕ) (l : LastSend) (x : Transmission)
+pub missing_next : (before missing : ℕ) (l : Option LastSend) (x : Transmission)
     → missing_after x l (missing_with before missing) ≡ missing_with before (missing_after x l missing)
 missing_next before missing l transmission.Nothing = refl
 missing_next before missing l (transmission.Word word k) = omega arith
 
 -- a tick, the count being another
-abbrev counting : Ticked → LastSend → ℕ → Ticked
+abbrev counting : Ticked → Option LastSend → ℕ → Ticked
 counting t l x = record { sequencer = with_missing t.sequencer (missing_after t.transmission l x); transmission = t.transmission }
 
 module _ (s : Sequencer) (x due n p id : ℕ) where

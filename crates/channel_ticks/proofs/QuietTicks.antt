@@ -11,7 +11,7 @@ use Rattle.channel_ticks.specs.Quiet.{quiet_at, quiet_ticks, after_quiet_at, aft
 use Rattle.sequencer.specs.declared.Stage.{Stage}
 use Rattle.sequencer.specs.declared.Stage.TheVariants as stage
 use Rattle.sequencer.specs.declared.Sequencer.{Sequencer}
-use Rattle.sequencer.specs.declared.Ticked.{Ticked}
+use Rattle.sequencer.specs.Transmissions.{Ticked}
 use Rattle.channel_core.specs.Behaviour.{is_setpoint}
 
 module _ (s : Sequencer) (due n p id : ℕ) where

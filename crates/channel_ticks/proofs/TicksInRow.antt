@@ -2,7 +2,6 @@
 -- Assumes nothing.
 use Prim.Native.Nat.{ℕ, zero, suc, ◌+◌, ◌-◌, ◌≤◌, ◌<◌}
 use mathlib.Core.Path.{◌≡◌, refl, sym, ap, subst, ◌∙◌}
-use mathlib.Core.Logic.{inl, inr}
 use mathlib.Core.Bool.{Bool, true, false, cond, ◌&&◌, and-false, and-eq-true_iff}
 use mathlib.Core.List.{List, []}
 use native.Mathlib.Omega.{arith}
@@ -13,10 +12,10 @@ use lib.Dec.{eqb}
 use borrow.Author.Tests.{lt-ltb, ne_eqb, not-true}
 use Rattle.status.specs.Bits.{bit_of}
 use Rattle.registers.specs.Map.{period_of, second_active}
+use Rattle.sequencer.specs.declared.Stage.{Stage}
 use Rattle.sequencer.specs.declared.Sequencer.{Sequencer}
-use Rattle.sequencer.specs.declared.Transmission.{Transmission}
-use Rattle.sequencer.specs.declared.Transmission.TheVariants as transmission
-use Rattle.sequencer.specs.declared.Ticked as t
+use Rattle.sequencer.specs.Transmissions.{Transmission}
+use Rattle.sequencer.specs.Transmissions as transmission
 use Rattle.sequencer.specs.Playing.{ticked, with_missing, missing_with}
 use Rattle.sequencer.specs.Runs.{holds, as_number, missing_after}
 use Rattle.sequencer.proofs.Moves.{moved}
@@ -35,9 +34,10 @@ use Rattle.command_frames.specs.Commanding as cmd
 use Rattle.command_frames.proofs.Laws.{ticked_idle, ticked_due}
 use Rattle.channel_core.proofs.Laws.{line_none}
 use Rattle.channel_ticks.specs.Quiet.{quiet_ticks, channel_quiet_ticks, after_quiet}
-use Rattle.channel_ticks.specs.Ticks.{ticks_of, answer_after, frames_in, frames_at, with_frame, sends_next, command_first, command_leaves, command_frames_first, with_command_frame, receiving_after, condition_after, after_ticks, sent_if}
+use Rattle.channel_ticks.specs.Ticks.{condition_between, ticks_of, answer_after, frames_in, frames_at, with_frame, sends_next, command_first, command_leaves, command_frames_first, with_command_frame, receiving_after, after_ticks, sent_if}
 use Rattle.channel_ticks.proofs.QuietTicks as sequencer
-use Rattle.channel_ticks.proofs.Once.{Once, alone, once_next, latched_next, missing_next, ticked_counting, quiet_counting, quiet_keeps, quiet_same}
+use Rattle.channel_ticks.proofs.Conditions.{condition_after, Repeats, between_same, alone, repeats_next, condition_next}
+use Rattle.channel_ticks.proofs.Once.{latched_next, missing_next, ticked_counting, quiet_counting, quiet_keeps, quiet_same}
 
 -- a channel after k quiet ticks: its sequencer's countdowns lowered
 abbrev pub waited : Channel → ℕ → Channel
@@ -53,6 +53,10 @@ pub receiving_next : (on : Bool) (f f' : ℕ) (x : Transmission) → f' ≡ f + 
 receiving_next on f f' transmission.Nothing e =
     let same : f' ≡ f = omega arith in ap (receiving_after on) same
 receiving_next on f f' (transmission.Word word k) e = rw (lt-ltb 0 f' (omega arith))
+
+-- the condition of the words of ticks in a row
+abbrev pub between : Channel → Sequencer → ℕ
+between c q = condition_between c.sequencer.stage q.stage
 
 module _ (s : List ℕ) (n user : ℕ) where
   -- The channel after k ticks, but for what is said of them: that says nothing of the next.
@@ -92,11 +96,11 @@ module _ (s : List ℕ) (n user : ℕ) where
   quiet_next c k none h =
       let e = sequencer.quiet_next c.sequencer (due_of (waited c k) s n user) n (period_of c.registers.clock) c.registers.id k h in (
         ap
-            (λ (y : t.Ticked).
+            (λ (y : transmission.Ticked).
             with_commands (with_sequencer (with_status c (send_status c.status (waited c k).sequencer.last y.transmission)) y.sequencer)
             (cmd.ticked c.commands (is_setpoint y.transmission))) e
             ∙ ap (with_commands (waited c (suc k))) (ticked_idle c.commands false none),
-        ap (λ (y : t.Ticked). tick_line c.registers.id c.commands y.transmission) e
+        ap (λ (y : transmission.Ticked). tick_line c.registers.id c.commands y.transmission) e
             ∙ line_none c.registers.id c.commands none transmission.Nothing,
       )
 
@@ -167,44 +171,50 @@ module _ (s : List ℕ) (n user : ℕ) where
   first_same c few =
       ap (λ (x : ℕ). with_sequencer c (with_missing c.sequencer x)) (let e : missing_with c.sequencer.missing 0 ≡ c.sequencer.missing = omega arith in e)
 
-  -- After k ticks with no command frame due, what the loop over them holds: the condition of their words, their sequencer, which counts what they found
-  -- missing, their frames, and the list.
-  pub record Held (c : Channel) (l : List ℕ) (k condition : ℕ) (q : Sequencer) (f : ℕ) (m : List ℕ) : Type 0 where
-    pub after : After (first c) l k (after_ticks c condition q f) f m
-    pub once : Once condition q
+  -- After k ticks with no command frame due, what the loop over them holds: their sequencer, which counts what they found missing, and whose stage
+  -- tells the condition of their words, their frames, and the list.
+  pub record Held (c : Channel) (l : List ℕ) (k : ℕ) (q : Sequencer) (f : ℕ) (m : List ℕ) : Type 0 where
+    pub after : After (first c) l k (after_ticks c (between c q) q f) f m
+    pub repeats : Repeats c.sequencer.stage q
 
   -- what the last of them did
   abbrev pub Said : Channel → ℕ → TickOutcome → Type 0
   Said c k x = x ≡ last_outcome (first c) k
 
-  pub held_none : (c : Channel) (l : List ℕ) → Held c l 0 0 (with_missing c.sequencer 0) 0 l
-  held_none c l = record { after = after_none (first c) l; once = inl refl }
+  pub held_none : (c : Channel) (l : List ℕ) → Held c l 0 (with_missing c.sequencer 0) 0 l
+  held_none c l =
+      record {
+        after =
+            subst (λ (j : ℕ). After (first c) l 0 (after_ticks c j (with_missing c.sequencer 0) 0) 0 l) (sym (between_same c.sequencer.stage))
+            (after_none (first c) l);
+        repeats = λ e. e;
+      }
 
-  pub held_after : {c : Channel} {l : List ℕ} {k condition : ℕ} {q : Sequencer} {f : ℕ} {m : List ℕ} → Held c l k condition q f m
-      → c.sequencer.missing ≤ 255 → After c l k (after_ticks c condition q f) f m
-  held_after {c} {l} {k} {condition} {q} {f} {m} x few =
-      subst (λ (b : Channel). After b l k (after_ticks c condition q f) f m) (first_same c few) x.after
+  pub held_after : {c : Channel} {l : List ℕ} {k : ℕ} {q : Sequencer} {f : ℕ} {m : List ℕ} → Held c l k q f m
+      → c.sequencer.missing ≤ 255 → After c l k (after_ticks c (between c q) q f) f m
+  held_after {c} {l} {k} {q} {f} {m} x few =
+      subst (λ (b : Channel). After b l k (after_ticks c (between c q) q f) f m) (first_same c few) x.after
 
   -- the channel that single ticks come to, with what the last of them did
-  pub held_ticks : {c : Channel} {l : List ℕ} {k condition : ℕ} {q : Sequencer} {f : ℕ} {m : List ℕ} {x : TickOutcome} → Held c l k condition q f m
+  pub held_ticks : {c : Channel} {l : List ℕ} {k : ℕ} {q : Sequencer} {f : ℕ} {m : List ℕ} {x : TickOutcome} → Held c l k q f m
       → Said c k x
-      → c.sequencer.missing ≤ 255 → ticks_of c s n user k ≡ with_outcome (after_ticks c condition q f) x
-  held_ticks {c} {l} {k} {condition} {q} {f} {m} {x} h e few =
+      → c.sequencer.missing ≤ 255 → ticks_of c s n user k ≡ with_outcome (after_ticks c (between c q) q f) x
+  held_ticks {c} {l} {k} {q} {f} {m} {x} h e few =
       ticks_are c k
       ∙ ap (λ (d : Channel). with_outcome d (last_outcome c k)) (held_after h few).channel_is
-      ∙ ap (with_outcome (after_ticks c condition q f)) (sym (e ∙ ap (λ (d : Channel). last_outcome d k) (first_same c few)))
+      ∙ ap (with_outcome (after_ticks c (between c q) q f)) (sym (e ∙ ap (λ (d : Channel). last_outcome d k) (first_same c few)))
 
   pub after_few : {c d : Channel} {l : List ℕ} {k f : ℕ} {m : List ℕ} → After c l k d f m → f ≤ k
   after_few {c} {d} {l} {k} x = omega (arith, x.frames_are, frames_few c k)
 
-  pub held_few : {c : Channel} {l : List ℕ} {k condition : ℕ} {q : Sequencer} {f : ℕ} {m : List ℕ} → Held c l k condition q f m → f ≤ k
+  pub held_few : {c : Channel} {l : List ℕ} {k : ℕ} {q : Sequencer} {f : ℕ} {m : List ℕ} → Held c l k q f m → f ≤ k
   held_few x = after_few x.after
 
   -- j quiet ones more
-  pub held_quiet : (c : Channel) (l : List ℕ) (k j : ℕ) {condition condition' : ℕ} {q q' : Sequencer} {f f' : ℕ} {m : List ℕ}
-      → Held c l k condition q f m → NoneDue c → j ≤ quiet_ticks q → condition' ≡ condition → q' ≡ after_quiet q j → f' ≡ f
-      → Held c l (k + j) condition' q' f' m
-  held_quiet c l k j {condition} {condition'} {q} {q'} {f} {f'} {m} x none h a b g =
+  pub held_quiet : (c : Channel) (l : List ℕ) (k j : ℕ) {q q' : Sequencer} {f f' : ℕ} {m : List ℕ}
+      → Held c l k q f m → NoneDue c → j ≤ quiet_ticks q → q' ≡ after_quiet q j → f' ≡ f → Held c l (k + j) q' f' m
+  held_quiet c l k j {q} {q'} {f} {f'} {m} x none h b g =
+      let condition = between c q in
       let count = missing_with c.sequencer.missing q.missing in
       let kept = quiet_keeps q count j in
       let same : waited (after_ticks c condition q f) j ≡ after_ticks c condition (after_quiet q j) f
@@ -215,17 +225,14 @@ module _ (s : List ℕ) (n user : ℕ) where
       (with_sequencer (with_status c (latched_by c.status i condition)) (with_missing (after_quiet q j) (missing_with c.sequencer.missing i)))
       (with_receiving c.commands (receiving_after c.commands.receiving f)))
       (sym kept.0) in
-      rw (a, b, g)
+      rw (b, g)
       (record {
         after =
-            subst (λ (d : Channel). After (first c) l (k + j) d f m) same
+            subst (λ (d : Channel). After (first c) l (k + j) d f m)
+            (same ∙ ap (λ (g : Stage). after_ticks c (condition_between c.sequencer.stage g) (after_quiet q j) f) (sym kept.1))
             (after_quiet_lem (first c) l k x.after none j (subst (λ (i : ℕ). j ≤ i) (sym (quiet_same q count j)) h));
-        once = once_quiet condition q (after_quiet q j) x.once kept.1;
+        repeats = λ e. ap holds kept.1 ∙ x.repeats e;
       })
-    where
-      once_quiet : (condition : ℕ) (q r : Sequencer) → Once condition q → r.stage ≡ q.stage → Once condition r
-      once_quiet condition q r (inl e) same = inl e
-      once_quiet condition q r (inr settled) same = inr (ap holds same ∙ settled)
 
   frame_setpoint : (id : ℕ) (x : Transmission) → is_frame (send_frame id x) ≡ is_setpoint x
   frame_setpoint id transmission.Nothing = refl
@@ -242,7 +249,7 @@ module _ (s : List ℕ) (n user : ℕ) where
       (e : p ≡ period_of c.registers.clock)
       (i : id ≡ c.registers.id)
     where
-      abbrev next : t.Ticked
+      abbrev next : transmission.Ticked
       next = ticked q due n p id
 
       next_is : played_of (after_ticks c condition q f) s n user
@@ -257,7 +264,7 @@ module _ (s : List ℕ) (n user : ℕ) where
       unfolding tick_answer
       next_answer =
           let w = with_receiving c.commands (receiving_after c.commands.receiving f) in
-          ap (λ (z : t.Ticked). tick_line c.registers.id w z.transmission) next_is ∙ line_none c.registers.id w none next.transmission
+          ap (λ (z : transmission.Ticked). tick_line c.registers.id w z.transmission) next_is ∙ line_none c.registers.id w none next.transmission
 
       -- what it does
       next_outcome : tick_outcome_of (after_ticks c condition q f) s n user ≡ outcome (is_setpoint next.transmission) q
@@ -268,32 +275,35 @@ module _ (s : List ℕ) (n user : ℕ) where
           ∙ outcome_by (is_setpoint next.transmission) q (after_ticks c condition q f).sequencer refl refl refl refl
 
   -- one more, whatever it sends
-  pub held_tick : (c : Channel) (l : List ℕ) (k : ℕ) {condition condition' : ℕ} {q q' : Sequencer} {f f' : ℕ} {m m' : List ℕ} (due p id : ℕ)
-      → Held c l k condition q f m
+  pub held_tick : (c : Channel) (l : List ℕ) (k : ℕ) {q q' : Sequencer} {f f' : ℕ} {m m' : List ℕ} (due p id : ℕ)
+      → Held c l k q f m
       → NoneDue c
       → due ≡ get_or s (setpoint_place (user - 1) (bit_of (second_active c.registers (user - 1))) n q.index) 0
       → p ≡ period_of c.registers.clock
       → id ≡ c.registers.id
-      → condition' ≡ condition_after (ticked q due n p id).transmission condition
       → q' ≡ (ticked q due n p id).sequencer
       → f' ≡ f + as_number (ticked q due n p id).transmission
       → m' ≡ with_frame (send_frame id (ticked q due n p id).transmission) k m
-      → Held c l (k + 1) condition' q' f' m'
+      → Held c l (k + 1) q' f' m'
       × Said c (k + 1) (outcome (is_setpoint (ticked q due n p id).transmission) q)
-  held_tick c l k {condition} {condition'} {q} {q'} {f} {f'} {m} {m'} due p id x none d e i a b g h =
+  held_tick c l k {q} {q'} {f} {f'} {m} {m'} due p id x none d e i b g h =
+      let condition = between c q in
+      let condition' = between c q' in
       let before = c.sequencer.missing in
       let on = receiving_after c.commands.receiving f in
       let sent = (ticked q due n p id).transmission in
       let w = with_receiving c.commands on in
       let r = receiving_next c.commands.receiving f f' sent g in
+      let a : condition' ≡ condition_after sent condition
+      = ap (λ (z : Sequencer). between c z) b ∙ sym (condition_next q due n p id c.sequencer.stage x.repeats) in
       let missing : q'.missing ≡ missing_after sent q.last q.missing = ap (λ (z : Sequencer). z.missing) b ∙ (moved q due n p id).missing in
       let status : send_status (latched_by c.status q.missing condition) q.last sent ≡ latched_by c.status q'.missing condition'
-      = latched_next c.status q.missing condition q.last sent (alone q due n p id condition x.once) ∙ simp (missing, a) in
+      = latched_next c.status q.missing condition q.last sent (alone q due n p id c.sequencer.stage) ∙ simp (missing, a) in
       let count : missing_after sent q.last (missing_with before q.missing) ≡ missing_with before q'.missing
       = missing_next before q.missing q.last sent ∙ ap (missing_with before) (sym missing) in
       let y = after_next (first c) l k {e = after_ticks c condition' q' f'} {a = send_frame c.registers.id sent} x.after
       (ap
-      (λ (z : t.Ticked).
+      (λ (z : transmission.Ticked).
       with_commands (with_sequencer (with_status c (send_status (latched_by c.status q.missing condition) q.last z.transmission)) z.sequencer)
       (cmd.ticked w (is_setpoint z.transmission)))
       (next_is c condition q f due p id none d e i)
@@ -304,7 +314,7 @@ module _ (s : List ℕ) (n user : ℕ) where
       rw add-one (
         record {
           after = record { channel_is = y.channel_is; frames_are = y.frames_are ∙ sym f_is; captured_is = y.captured_is ∙ sym m_is };
-          once = rw (a, b) (once_next q due n p id condition x.once);
+          repeats = rw b (repeats_next q due n p id c.sequencer.stage x.repeats);
         },
         sym (ap (λ (z : Channel). tick_outcome_of z s n user) x.after.channel_is ∙ next_outcome c condition q f due p id none d e i),
       )
@@ -336,7 +346,7 @@ module _ (s : List ℕ) (n user : ℕ) where
     unfolding due_of
     command_first_lem = go (is_due c.commands.waiting)
       where
-        x : t.Ticked
+        x : transmission.Ticked
         x = played_of c s n user
 
         d : Channel

@@ -1,10 +1,12 @@
 -- Document 01, 'A channel's life': ticks in a row of a channel by itself, nothing else happening meanwhile: the channel after them, and the
 -- frames that they answer.
 use Rattle.std.specs.Prelude.{ℕ, zero, suc, ◌+◌, Bool, false, cond, not, ◌&&◌, List, set, eqb, ltb}
+use Rattle.status.specs.Latching.{pause_bit, end_of_function}
+use Rattle.sequencer.specs.declared.Stage.{Stage}
+use Rattle.sequencer.specs.declared.Stage.TheVariants as stage
 use Rattle.sequencer.specs.declared.Sequencer.{Sequencer}
-use Rattle.sequencer.specs.declared.Transmission.{Transmission}
-use Rattle.sequencer.specs.declared.Transmission.TheVariants as transmission
 use Rattle.sequencer.specs.Playing.{with_missing, missing_with}
+use Rattle.sequencer.specs.Runs.{holds}
 use Rattle.tick_outcome.specs.declared.TickOutcome.TheVariants as tick
 use Rattle.command_frames.specs.Commanding.{is_due, command_frame, with_receiving}
 use Rattle.command_frames.specs.Commanding as cmd
@@ -49,12 +51,20 @@ abbrev pub receiving_after : Bool → ℕ → Bool
 receiving_after receiving frames = cond (ltb 0 frames) false receiving
 
 -- ---- What ticks in a row latch and count, once for all of them: no reply comes between them, and one of their words at most has a condition (`settles` of
--- proofs/Once: it is repeated then)
+-- proofs/Conditions: it is repeated then)
 
--- the condition of their words, one tick more transmitting this; 0: none
-abbrev pub condition_after : Transmission → ℕ → ℕ
-condition_after transmission.Nothing k = k
-condition_after (transmission.Word word j) k = cond (eqb j 0) k j
+-- the condition of the word that a stage repeats; 0: none
+abbrev pub condition_at : Stage → ℕ
+condition_at stage.Idle = 0
+condition_at stage.Starting = 0
+condition_at stage.Running = 0
+condition_at (stage.Paused k) = pause_bit k
+condition_at stage.Resuming = 0
+condition_at stage.Ended = end_of_function
+
+-- the condition of their words, by the stages before the first and after the last of them: one that was repeated before has none now
+abbrev pub condition_between : Stage → Stage → ℕ
+condition_between before after = cond (holds before) 0 (condition_at after)
 
 -- a channel after ticks with no command frame due, but for what the last of them did: the condition of their words, their sequencer, whose count of
 -- missing readbacks has only what they found, and the number of their frames

@@ -3,82 +3,48 @@
 
 pub mod quiet;
 
-ghost use Rattle.std.specs.Prelude.{◌≡◌, ◌+◌, ◌<◌, ◌≤◌, ◌%◌, set, false};
+ghost use Rattle.std.specs.Prelude.{◌≡◌, ◌+◌, ◌<◌, ◌≤◌, ◌%◌, cond, set, false};
 ghost use Rattle.frame.specs.Frames.{encoded};
 ghost use Rattle.sequencer.specs.Playing.{ticked, with_missing};
 ghost use Rattle.sequencer.specs.Runs.{as_number};
+ghost use Rattle.sequencer.specs.Transmissions.{condition_number};
 ghost use Rattle.command_frames.specs.Commanding.{is_due};
 ghost use Rattle.tick_outcome.specs.Outcomes.{outcome};
 ghost use Rattle.channel_core.specs.State.{with_outcome};
 ghost use Rattle.channel_core.specs.Behaviour.{is_setpoint, send_frame};
 ghost use Rattle.channel_ticks.specs.Quiet.{after_quiet};
-ghost use Rattle.channel_ticks.specs.Ticks.{ticks_of, frames_in, with_frame, frames_at, condition_after, after_ticks, command_first, command_frames_first, with_command_frame, receiving_after, sent_if};
+ghost use Rattle.channel_ticks.specs.Ticks.{ticks_of, frames_in, with_frame, frames_at, condition_between, after_ticks, command_first, command_leaves, with_command_frame, sent_if};
 
-use channel_core::{Channel, latched_by, setpoint_frame, setpoint_place, word_at};
-use quiet::least;
-use sequencer::{Sequencer, Transmission};
+use channel_core::{Channel, latch_by, setpoint_frame, setpoint_place, word_at};
+use sequencer::{Clock, Sequencer, Stage};
+use status::Condition;
 use tick_outcome::TickOutcome;
 
-// A channel after ticks in a row, and how many of them answered a frame.
-#[derive(Clone, Copy)]
-pub struct Advanced {
-    pub channel: Channel,
-    pub frames: u32,
-}
-
-// A channel of whose next tick the command frame's share is done, and the frames that it sent: none or one.
-#[derive(Clone, Copy)]
-struct Begun {
-    pub channel: Channel,
-    pub frames: u32,
-}
-
-// What the rest of the ticks come to so far: the condition of their words (0: none; a word with one is repeated, so there is one at most), the sequencer,
-// whose count of missing readbacks is only what they find, and the number of their frames. What they latch follows from that, and so does whether replies
-// still go to E4-FA: the status here would slow the loop down. `outcome` is what the last tick did that was not skipped.
+// What the ticks come to so far: the sequencer, whose count of missing readbacks is only what they find, and the number of their frames. What they latch
+// follows from that, and so does whether replies still go to E4-FA: the status here would slow the loop down. `outcome` is what the last tick did that was
+// not skipped.
 #[derive(Clone, Copy)]
 struct Progress {
-    pub condition: u8,
-    pub sequencer: Sequencer,
-    pub frames: u32,
-    pub outcome: TickOutcome,
+    sequencer: Sequencer,
+    frames: u32,
+    outcome: TickOutcome,
 }
 
-// A frame put at the first place, if there is one.
-fn capture_first(captured: &mut [u64], frame: u64)
-    ensures { captured.new ≡ set captured.old 0 frame }
+// The next tick's share of the command frames, before the rest of it, where one is due: it leaves, unless a setpoint does. Answers whether it left.
+fn command_first(c: &mut Channel, captured: &mut [u64]) -> bool
+    ensures next { c.new ≡ command_first c.old }
+    ensures left { result ≡ command_leaves c.old }
+    ensures captured { captured.new ≡ with_command_frame c.old captured.old }
 {
-    if 0 < captured.len() {
-        captured[0] = frame;
+    let sends = quiet::quiet_ticks(&c.sequencer) == 0;
+    let leaves = c.commands.is_due() && !sends;
+    if leaves && 0 < captured.len() {
+        captured[0] = c.commands.frame();
     }
-}
-
-// The next tick's share of the command frames, before the rest of it, where one is due: it leaves, unless a setpoint does.
-fn command_first(c: Channel, captured: &mut [u64]) -> Begun
-    ensures { (result.channel ≡ command_first c) × (result.frames ≡ command_frames_first c) × (captured.new ≡ with_command_frame c captured.old) }
-{
-    let commands = c.commands;
-    if commands.is_due() {
-        let sequencer = c.sequencer;
-        let sends = quiet::quiet_ticks(sequencer) == 0;
-        let mut next = c;
-        next.commands = commands.ticked(sends);
-        if sends {
-            return Begun {
-                channel: next,
-                frames: 0,
-            };
-        }
-        capture_first(captured, commands.frame());
-        return Begun {
-            channel: next,
-            frames: 1,
-        };
+    if c.commands.is_due() {
+        c.commands.tick(sends);
     }
-    Begun {
-        channel: c,
-        frames: 0,
-    }
+    leaves
 }
 
 // A frame put at its place; past the end none is kept, and none is worked out.
@@ -90,182 +56,148 @@ fn capture(captured: &mut [u64], at: usize, id: u8, word: u32)
     }
 }
 
-// The condition of the words with one tick more.
-fn condition_after(sent: Transmission, before: u8) -> u8
-    ensures { result ≡ condition_after sent before }
-{
-    match sent {
-        Transmission::Nothing => before,
-        Transmission::Word { word: _, condition } => {
-            if condition == 0 {
-                return before;
-            }
-            condition
+impl Progress {
+    // Before the first of them.
+    fn begin(c: &Channel) -> Progress
+        ensures sequencer { result.sequencer ≡ with_missing c.now.sequencer 0 }
+        ensures frames { result.frames ≡ 0 }
+        ensures outcome { result.outcome ≡ c.now.outcome }
+    {
+        let mut sequencer = c.sequencer;
+        sequencer.clear_missing();
+        Progress {
+            sequencer,
+            frames: 0,
+            outcome: c.outcome,
         }
     }
-}
 
-// One tick, its frame put at its place.
-#[tactic(auto, unfolding(tick_outcome::specs::Outcomes::outcome))]
-fn tick(
-    progress: Progress,
-    due: u32,
-    n: u32,
-    period: u32,
-    captured: &mut [u64],
-    at: usize,
-    id: u8,
-) -> Progress
-    requires { progress.frames < 4294967295 }
-    ensures { (result.condition ≡ condition_after (ticked progress.sequencer due n period id).transmission progress.condition) × (result.sequencer ≡ (ticked progress.sequencer due n period id).sequencer) × (result.frames ≡ progress.frames + as_number (ticked progress.sequencer due n period id).transmission) × (result.outcome ≡ outcome (is_setpoint (ticked progress.sequencer due n period id).transmission) progress.sequencer) × (captured.new ≡ with_frame (send_frame id (ticked progress.sequencer due n period id).transmission) at captured.old) }
-{
-    let sequencer = progress.sequencer;
-    let ticked = sequencer.tick(due, n, period, id);
-    let next = ticked.sequencer;
-    let sent = ticked.transmission;
-    let condition = condition_after(sent, progress.condition);
-    match sent {
-        Transmission::Nothing => Progress {
-            condition: condition,
-            sequencer: next,
-            frames: progress.frames,
-            outcome: tick_outcome::silence(sequencer),
-        },
-        Transmission::Word { word, condition: _ } => {
-            capture(captured, at, id, word);
-            Progress {
-                condition: condition,
-                sequencer: next,
-                frames: progress.frames + 1,
-                outcome: TickOutcome::Sent,
+    // So many quiet ticks; what the last of them did is not said.
+    fn skip(&mut self, count: u64)
+        ensures sequencer { self.new.sequencer ≡ after_quiet self.old.sequencer count }
+        ensures frames { self.new.frames ≡ self.old.frames }
+    {
+        quiet::count_down(&mut self.sequencer, count);
+    }
+
+    // One tick, its frame put at its place.
+    #[tactic(auto, unfolding(tick_outcome::specs::Outcomes::outcome))]
+    fn tick(&mut self, clock: &Clock, captured: &mut [u64], at: usize)
+        requires { self.old.frames < 4294967295 }
+        ensures sequencer { self.new.sequencer ≡ (ticked self.old.sequencer clock.now.due clock.now.depth clock.now.period clock.now.id).sequencer }
+        ensures frames { self.new.frames ≡ self.old.frames + as_number (ticked self.old.sequencer clock.now.due clock.now.depth clock.now.period clock.now.id).transmission }
+        ensures outcome { self.new.outcome ≡ outcome (is_setpoint (ticked self.old.sequencer clock.now.due clock.now.depth clock.now.period clock.now.id).transmission) self.old.sequencer }
+        ensures captured { captured.new ≡ with_frame (send_frame clock.now.id (ticked self.old.sequencer clock.now.due clock.now.depth clock.now.period clock.now.id).transmission) at captured.old }
+    {
+        let before = self.sequencer;
+        match self.sequencer.tick(clock) {
+            None => self.outcome = tick_outcome::silence(&before),
+            Some(sent) => {
+                capture(captured, at, clock.id, sent.word);
+                self.frames += 1;
+                self.outcome = TickOutcome::Sent;
             }
         }
     }
-}
 
-// So many quiet ticks; what the last of them did is not said.
-fn skip(progress: Progress, count: u64) -> Progress
-    ensures { (result.condition ≡ progress.condition) × (result.sequencer ≡ after_quiet progress.sequencer count) × (result.frames ≡ progress.frames) }
-{
-    let sequencer = progress.sequencer;
-    let mut next = progress;
-    next.sequencer = quiet::after_quiet(sequencer, count);
-    next
-}
+    // The condition of their words, by the stage before them: a word with one is repeated from then on.
+    fn condition(&self, before: Stage) -> Option<Condition>
+        ensures { condition_number result ≡ condition_between before self.now.sequencer.stage }
+    {
+        match (before, self.sequencer.stage) {
+            (Stage::Paused(_) | Stage::Ended, _) => None,
+            (_, Stage::Paused(pause)) => Some(Condition::Pause(pause)),
+            (_, Stage::Ended) => Some(Condition::EndOfFunction),
+            _ => None,
+        }
+    }
 
-// A channel before the first of them.
-fn begin(c: Channel) -> Progress
-    ensures { (result.condition ≡ 0) × (result.sequencer ≡ with_missing c.sequencer 0) × (result.frames ≡ 0) × (result.outcome ≡ c.outcome) }
-{
-    let sequencer = c.sequencer;
-    let outcome = c.outcome;
-    Progress {
-        condition: 0,
-        sequencer: sequencer.missing_cleared(),
-        frames: 0,
-        outcome: outcome,
+    // After the last of them.
+    fn finish(self, c: &mut Channel)
+        ensures next { c.new ≡ with_outcome (after_ticks c.old (condition_between c.old.sequencer.stage self.sequencer.stage) self.sequencer self.frames) self.outcome }
+        ensures fits { c.old.sequencer.missing ≤ 255 }
+    {
+        let before = c.sequencer.missing;
+        let condition = self.condition(c.sequencer.stage);
+        c.sequencer = self.sequencer;
+        c.sequencer.add_missing_before(before);
+        latch_by(&mut c.status, self.sequencer.missing, condition);
+        // A setpoint that leaves ends the replies to E4-FA.
+        if 0 < self.frames {
+            c.commands.receiving = false;
+        }
+        c.outcome = self.outcome;
     }
 }
 
-// Whether replies still go to E4-FA: no setpoint left, so there is no frame.
-fn receiving_after(receiving: bool, frames: u32) -> bool
-    ensures { result ≡ receiving_after receiving frames }
-{
-    if 0 < frames {
-        return false;
-    }
-    receiving
-}
-
-// A channel after the last of them.
-fn finish(c: Channel, progress: Progress) -> Advanced
-    ensures { (result.channel ≡ with_outcome (after_ticks c progress.condition progress.sequencer progress.frames) progress.outcome) × (result.frames ≡ progress.frames) × (c.sequencer.missing ≤ 255) }
-{
-    let status = c.status;
-    let before = c.sequencer;
-    let sequencer = progress.sequencer;
-    let mut commands = c.commands;
-    commands.receiving = receiving_after(commands.receiving, progress.frames);
-    let mut next = c;
-    next.status = latched_by(status, sequencer.missing, progress.condition);
-    next.sequencer = sequencer.missing_after(before.missing);
-    next.commands = commands;
-    let outcome = progress.outcome;
-    Advanced {
-        channel: next.with_outcome(outcome),
-        frames: progress.frames,
-    }
-}
-
-// So many ticks with no command frame due.
+// So many ticks with no command frame due, of which the answer is the number of frames.
 fn setpoint_ticks(
-    c: Channel,
+    c: &mut Channel,
     setpoints: &[u32],
     n: u32,
     user: u8,
     count: u32,
     captured: &mut [u64],
-) -> Advanced
-    requires { is_due c.commands.waiting ≡ false }
-    ensures { (result.channel ≡ ticks_of c setpoints.now n user count) × (result.frames ≡ frames_in c setpoints.now n user count) × (captured.new ≡ frames_at c setpoints.now n user count captured.old) }
+) -> u32
+    requires { is_due c.old.commands.waiting ≡ false }
+    ensures channel { c.new ≡ ticks_of c.old setpoints.now n user count }
+    ensures frames { result ≡ frames_in c.old setpoints.now n user count }
+    ensures captured { captured.new ≡ frames_at c.old setpoints.now n user count captured.old }
 {
-    let registers = c.registers;
-    let id = registers.id;
+    let id = c.registers.id;
     let at = registers::zero_based(user);
-    let second = registers.second_active(user);
-    let period = registers::period(registers.clock);
-    let mut progress = begin(c);
+    let second = c.registers.second_active(user);
+    let period = registers::period(c.registers.clock);
+    let mut progress = Progress::begin(c);
     let mut done: u32 = 0;
     while done < count {
-        let sequencer = progress.sequencer;
-        // The last tick is taken by itself, for what it did.
-        let quiet = least(quiet::quiet_ticks(sequencer), (count - done - 1) as u64);
-        progress = skip(progress, quiet);
+        // No `for`: a turn takes as many ticks as are quiet, and one more. The last is taken by itself, for what it did.
+        let quiet = quiet::quiet_ticks(&progress.sequencer).min(u64::from(count - done - 1));
+        progress.skip(quiet);
         done += quiet as u32;
-        let ready = progress.sequencer;
-        let due = word_at(setpoints, setpoint_place(at, second, n, ready.index));
-        progress = tick(progress, due, n, period, captured, done as usize, id);
+        let place = setpoint_place(at, second, n, progress.sequencer.index);
+        let clock = Clock {
+            due: word_at(setpoints, place),
+            depth: n,
+            period,
+            id,
+        };
+        progress.tick(&clock, captured, done as usize);
         done += 1;
     }
-    finish(c, progress)
+    let frames = progress.frames;
+    progress.finish(c);
+    frames
 }
 
 // After so many ticks: where there is one, and a command frame left on it, that tick sent.
-fn sent_if(c: Channel, frames: u32, count: u32) -> Channel
-    ensures { result ≡ sent_if c frames count }
+fn say_sent(c: &mut Channel, left: bool, count: u32)
+    ensures { c.new ≡ sent_if c.old (cond left 1 0) count }
 {
-    if frames == 1 {
-        if count == 1 {
-            return c.with_outcome(TickOutcome::Sent);
-        }
+    if left && count == 1 {
+        c.outcome = TickOutcome::Sent;
     }
-    c
 }
 
-// So many ticks over the channel's own setpoints, their frames captured: that of tick k at k - 1, as far as the slice reaches.
+// So many ticks over the channel's own setpoints, their frames captured: that of tick k at k - 1, as far as the slice reaches. Answers how many frames.
 #[tactic(auto, unfolding(crate::specs::Ticks::ticks_of, crate::specs::Ticks::frames_in, crate::specs::Ticks::frames_at))]
 pub fn ticks(
-    c: Channel,
+    c: &mut Channel,
     setpoints: &[u32],
     n: u32,
     user: u8,
     count: u32,
     captured: &mut [u64],
-) -> Advanced
-    ensures { (result.channel ≡ ticks_of c setpoints.now n user count) × (result.frames ≡ frames_in c setpoints.now n user count) × (captured.new ≡ frames_at c setpoints.now n user count captured.old) }
+) -> u32
+    ensures channel { c.new ≡ ticks_of c.old setpoints.now n user count }
+    ensures frames { result ≡ frames_in c.old setpoints.now n user count }
+    ensures captured { captured.new ≡ frames_at c.old setpoints.now n user count captured.old }
 {
     if count == 0 {
-        return Advanced {
-            channel: c,
-            frames: 0,
-        };
+        return 0;
     }
-    let begun = command_first(c, captured);
-    let ready = begun.channel;
-    let rest = setpoint_ticks(ready, setpoints, n, user, count, captured);
-    let last = rest.channel;
-    Advanced {
-        channel: sent_if(last, begun.frames, count),
-        frames: begun.frames + rest.frames,
-    }
+    let left = command_first(c, captured);
+    let frames = setpoint_ticks(c, setpoints, n, user, count, captured);
+    say_sent(c, left, count);
+    u32::from(left) + frames
 }

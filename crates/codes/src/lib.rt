@@ -9,10 +9,7 @@ ghost use Rattle.codes.specs.Voltage.{voltage_of};
 pub fn code(word: u16) -> i32
     ensures { result ≡ code_of word }
 {
-    if word < 32768 {
-        return word as i32;
-    }
-    word as i32 - 65536
+    i32::from(word.cast_signed())
 }
 
 // Exactly the code × 10 / 32,768: no step rounds.
@@ -20,5 +17,5 @@ pub fn code(word: u16) -> i32
 pub fn volts(word: u16) -> f64
     ensures { result ≡ voltage_of word }
 {
-    code(word) as f64 * 10.0 / 32768.0
+    f64::from(code(word)) * 10.0 / 32768.0
 }

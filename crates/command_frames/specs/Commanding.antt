@@ -1,15 +1,15 @@
 -- Document 02, card 1: command frames, which leave between functions. A channel's registers E0–FE, the frame that waits, and the replies to the last
 -- one sent. Of a channel alone; who calls these, and when, stands in channel_core, channel_replies, channel_registers and channel.
-use Rattle.std.specs.Prelude.{ℕ, ◌+◌, ◌-◌, ◌*◌, ◌/◌, ◌%◌, Bool, true, false, cond, ◌&&◌, List, get_or, set, replicate, eqb, ltb}
+use Rattle.std.specs.Prelude.{ℕ, ◌+◌, ◌-◌, ◌*◌, ◌/◌, ◌%◌, Bool, true, false, cond, ◌&&◌, List, get_or, set, replicate, eqb, ltb, Option, Some, None}
 use Rattle.frame.specs.Frames.{encoded}
 use Rattle.status.specs.Bits.{bit_at, bit_of}
-use Rattle.command_frames.specs.declared.Waiting.{Waiting}
-use Rattle.command_frames.specs.declared.Waiting.TheVariants as waiting
+use Rattle.command_frames.specs.declared.Trigger.{Trigger}
+use Rattle.command_frames.specs.declared.Trigger.TheVariants as trigger
 use Rattle.command_frames.specs.declared.CommandFrames.{CommandFrames}
 
 -- "all registers 0": nothing was sent, and nothing waits
 abbrev pub opened : CommandFrames
-opened = record { header = 0; word = 0; waiting = waiting.Nothing; receiving = false; count = 0; replies = replicate 12 0 }
+opened = record { header = 0; word = 0; waiting = None; receiving = false; count = 0; replies = replicate 12 0 }
 
 -- the same with one of these changed
 abbrev pub with_header : CommandFrames → ℕ → CommandFrames
@@ -18,7 +18,7 @@ with_header f header = record { header = header; word = f.word; waiting = f.wait
 abbrev pub with_word : CommandFrames → ℕ → CommandFrames
 with_word f word = record { header = f.header; word = word; waiting = f.waiting; receiving = f.receiving; count = f.count; replies = f.replies }
 
-abbrev pub with_waiting : CommandFrames → Waiting → CommandFrames
+abbrev pub with_waiting : CommandFrames → Option Trigger → CommandFrames
 with_waiting f w = record { header = f.header; word = f.word; waiting = w; receiving = f.receiving; count = f.count; replies = f.replies }
 
 abbrev pub with_receiving : CommandFrames → Bool → CommandFrames
@@ -28,26 +28,26 @@ with_receiving f receiving = record { header = f.header; word = f.word; waiting 
 
 -- a write to FC: "FC D0 sends on the next tick. D1 sends on the tick after the next Group End. D0 wins if both are set."; "a later FC write with D0 or
 -- D1 replaces a waiting frame", one with neither changes nothing
-abbrev pub requested : Waiting → ℕ → Waiting
-requested w value = cond (bit_at value 0) waiting.NextTick (cond (bit_at value 1) waiting.GroupEnd w)
+abbrev pub requested : Option Trigger → ℕ → Option Trigger
+requested w value = cond (bit_at value 0) (Some trigger.NextTick) (cond (bit_at value 1) (Some trigger.GroupEnd) w)
 
 -- a frame leaves on the next tick
-abbrev pub is_due : Waiting → Bool
-is_due waiting.Nothing = false
-is_due waiting.NextTick = true
-is_due waiting.GroupEnd = false
+abbrev pub is_due : Option Trigger → Bool
+is_due None = false
+is_due (Some trigger.NextTick) = true
+is_due (Some trigger.GroupEnd) = false
 
 -- a Group End: a frame that waited for it leaves on the tick after
-abbrev pub reached : Waiting → Waiting
-reached waiting.Nothing = waiting.Nothing
-reached waiting.NextTick = waiting.NextTick
-reached waiting.GroupEnd = waiting.NextTick
+abbrev pub reached : Option Trigger → Option Trigger
+reached None = None
+reached (Some trigger.NextTick) = Some trigger.NextTick
+reached (Some trigger.GroupEnd) = Some trigger.NextTick
 
 -- a tick: none waits for it any longer
-abbrev pub elapsed : Waiting → Waiting
-elapsed waiting.Nothing = waiting.Nothing
-elapsed waiting.NextTick = waiting.Nothing
-elapsed waiting.GroupEnd = waiting.GroupEnd
+abbrev pub elapsed : Option Trigger → Option Trigger
+elapsed None = None
+elapsed (Some trigger.NextTick) = None
+elapsed (Some trigger.GroupEnd) = Some trigger.GroupEnd
 
 -- ---- Registers
 
@@ -75,7 +75,7 @@ command_frame f = encoded (f.header % 256) f.word (f.header / 256)
 
 -- it leaves: "FE is cleared when a command frame is sent", and replies go to E4–FA from now on
 abbrev pub sent : CommandFrames → CommandFrames
-sent f = record { header = f.header; word = f.word; waiting = waiting.Nothing; receiving = true; count = 0; replies = f.replies }
+sent f = record { header = f.header; word = f.word; waiting = None; receiving = true; count = 0; replies = f.replies }
 
 -- a setpoint leaves: replies go to E4–FA "until the first setpoint". No frame is due on that tick (`NeverTogether`, histories)
 abbrev pub setpoint_sent : CommandFrames → CommandFrames
@@ -91,7 +91,7 @@ group_ended f = with_receiving (with_waiting f (reached f.waiting)) false
 
 -- "Disarm and reset drop a waiting frame." (A reset returns to `opened`.)
 unfoldable pub dropped : CommandFrames → CommandFrames
-dropped f = with_waiting f waiting.Nothing
+dropped f = with_waiting f None
 
 -- ---- Replies
 

@@ -2,27 +2,23 @@
 #![tactic(auto)]
 
 ghost use Rattle.std.specs.Prelude.{◌≡◌};
-ghost use Rattle.command_frames.specs.Commanding.{opened, with_waiting, with_receiving, requested, is_due, reached, elapsed, stored, loaded, command_frame, ticked, group_ended, dropped, takes, id_word, received};
-
-use status::weigh;
+ghost use Rattle.command_frames.specs.Commanding.{opened, requested, is_due, stored, loaded, command_frame, ticked, group_ended, dropped, takes, id_word, received};
 
 // What a command frame waits for.
-#[derive(Clone, Copy)]
-pub enum Waiting {
-    // None waits.
-    Nothing,
+#[derive(Clone, Copy, Debug, PartialEq, Eq)]
+pub enum Trigger {
     NextTick,
     GroupEnd,
 }
 
-#[derive(Clone, Copy)]
+#[derive(Clone, Copy, Debug, PartialEq, Eq)]
 pub struct CommandFrames {
     // E0: auxiliary bits in the high byte, the Frame ID in the low one
     pub header: u16,
     // E2: the data
     pub word: u16,
-    // What FC asked for.
-    pub waiting: Waiting,
+    // What FC asked for: the frame waits for this, or none waits.
+    pub waiting: Option<Trigger>,
     // Whether replies go to E4-FA.
     pub receiving: bool,
     // FE
@@ -32,37 +28,15 @@ pub struct CommandFrames {
 }
 
 // What waits after a write to FC.
-fn requested(waiting: Waiting, value: u16) -> Waiting
+fn requested(waiting: Option<Trigger>, value: u16) -> Option<Trigger>
     ensures { result ≡ requested waiting value }
 {
     if status::is_set(value, 0) {
-        return Waiting::NextTick;
-    }
-    if status::is_set(value, 1) {
-        return Waiting::GroupEnd;
-    }
-    waiting
-}
-
-// What waits after a Group End.
-fn reached(waiting: Waiting) -> Waiting
-    ensures { result ≡ reached waiting }
-{
-    match waiting {
-        Waiting::Nothing => Waiting::Nothing,
-        Waiting::NextTick => Waiting::NextTick,
-        Waiting::GroupEnd => Waiting::NextTick,
-    }
-}
-
-// What waits after a tick.
-fn elapsed(waiting: Waiting) -> Waiting
-    ensures { result ≡ elapsed waiting }
-{
-    match waiting {
-        Waiting::Nothing => Waiting::Nothing,
-        Waiting::NextTick => Waiting::Nothing,
-        Waiting::GroupEnd => Waiting::GroupEnd,
+        Some(Trigger::NextTick)
+    } else if status::is_set(value, 1) {
+        Some(Trigger::GroupEnd)
+    } else {
+        waiting
     }
 }
 
@@ -70,7 +44,7 @@ fn elapsed(waiting: Waiting) -> Waiting
 fn id_word(id: u8, wrong: bool) -> u16
     ensures { result ≡ id_word id wrong }
 {
-    weigh(wrong, 0x100) as u16 + id as u16
+    u16::from(wrong) * 0x100 + u16::from(id)
 }
 
 impl CommandFrames {
@@ -80,7 +54,7 @@ impl CommandFrames {
         CommandFrames {
             header: 0,
             word: 0,
-            waiting: Waiting::Nothing,
+            waiting: None,
             receiving: false,
             count: 0,
             replies: [0; 12],
@@ -89,148 +63,101 @@ impl CommandFrames {
 
     // A value written at an offset that holds it, or to FC.
     #[tactic(auto, unfolding(crate::specs::Commanding::stored))]
-    pub fn stored(self, offset: u16, value: u16) -> CommandFrames
-        ensures { result ≡ stored self offset value }
+    pub fn write(&mut self, offset: u16, value: u16)
+        ensures { self.new ≡ stored self.old offset value }
     {
-        let mut next = self;
-        if offset == 0xe0 {
-            next.header = value;
-            return next;
+        match offset {
+            0xe0 => self.header = value,
+            0xe2 => self.word = value,
+            0xfc => self.waiting = requested(self.waiting, value),
+            _ => {}
         }
-        if offset == 0xe2 {
-            next.word = value;
-            return next;
-        }
-        if offset == 0xfc {
-            let waiting = self.waiting;
-            return self.with(requested(waiting, value), self.receiving);
-        }
-        next
     }
 
     // What a read shows at an offset.
     #[tactic(auto, unfolding(crate::specs::Commanding::loaded))]
-    pub fn loaded(self, offset: u16) -> u16
-        ensures { result ≡ loaded self offset }
+    pub fn read(&self, offset: u16) -> u16
+        ensures { result ≡ loaded self.now offset }
     {
-        if offset == 0xe0 {
-            return self.header;
+        match offset {
+            0xe0 => self.header,
+            0xe2 => self.word,
+            0xe4..0xfc => self.replies[usize::from(offset - 0xe4) / 2],
+            0xfe => u16::from(self.count),
+            _ => 0,
         }
-        if offset == 0xe2 {
-            return self.word;
-        }
-        if offset < 0xe4 {
-            return 0;
-        }
-        if offset < 0xfc {
-            let place = (offset as usize - 0xe4) / 2;
-            let replies = self.replies;
-            return replies[place];
-        }
-        if offset == 0xfe {
-            return self.count as u16;
-        }
-        0
     }
 
     // Whether a command frame leaves on the next tick.
-    pub fn is_due(self) -> bool
-        ensures { result ≡ is_due self.waiting }
+    pub fn is_due(&self) -> bool
+        ensures { result ≡ is_due self.now.waiting }
     {
-        let waiting = self.waiting;
-        match waiting {
-            Waiting::Nothing => false,
-            Waiting::NextTick => true,
-            Waiting::GroupEnd => false,
-        }
+        self.waiting == Some(Trigger::NextTick)
     }
 
     // The frame that leaves, if it leaves now.
     #[tactic(auto, unfolding(crate::specs::Commanding::command_frame))]
-    pub fn frame(self) -> u64
-        ensures { result ≡ command_frame self }
+    pub fn frame(&self) -> u64
+        ensures { result ≡ command_frame self.now }
     {
-        frame::encode(
-            (self.header % 256) as u8,
-            self.word,
-            (self.header / 256) as u8,
-        )
-    }
-
-    // Another frame waits, or none; replies go to E4-FA, or not.
-    fn with(self, waiting: Waiting, receiving: bool) -> CommandFrames
-        ensures { result ≡ with_receiving (with_waiting self waiting) receiving }
-    {
-        let replies = self.replies;
-        CommandFrames {
-            header: self.header,
-            word: self.word,
-            waiting: waiting,
-            receiving: receiving,
-            count: self.count,
-            replies: replies,
-        }
+        let [auxiliary, id] = self.header.to_be_bytes();
+        frame::encode(id, self.word, auxiliary)
     }
 
     // A tick; `setpoint`: a setpoint leaves on it.
     #[tactic(auto, unfolding(crate::specs::Commanding::ticked))]
-    pub fn ticked(self, setpoint: bool) -> CommandFrames
-        ensures { result ≡ ticked self setpoint }
+    pub fn tick(&mut self, setpoint: bool)
+        ensures { self.new ≡ ticked self.old setpoint }
     {
-        let waiting = self.waiting;
+        let due = self.is_due();
+        if due {
+            self.waiting = None;
+        }
         if setpoint {
-            return self.with(elapsed(waiting), false);
+            self.receiving = false;
+        } else if due {
+            self.receiving = true;
+            self.count = 0;
         }
-        if self.is_due() {
-            let mut next = self.with(Waiting::Nothing, true);
-            next.count = 0;
-            return next;
-        }
-        self
     }
 
     // Group End's share: a frame that waited for it is due, and replies go to E4-FA no longer.
     #[tactic(auto, unfolding(crate::specs::Commanding::group_ended))]
-    pub fn group_ended(self) -> CommandFrames
-        ensures { result ≡ group_ended self }
+    pub fn end_group(&mut self)
+        ensures { self.new ≡ group_ended self.old }
     {
-        let waiting = self.waiting;
-        self.with(reached(waiting), false)
+        if self.waiting == Some(Trigger::GroupEnd) {
+            self.waiting = Some(Trigger::NextTick);
+        }
+        self.receiving = false;
     }
 
     // Disarm's share: what waits is dropped.
     #[tactic(auto, unfolding(crate::specs::Commanding::dropped))]
-    pub fn dropped(self) -> CommandFrames
-        ensures { result ≡ dropped self }
+    pub fn drop_waiting(&mut self)
+        ensures { self.new ≡ dropped self.old }
     {
-        self.with(Waiting::Nothing, self.receiving)
+        self.waiting = None;
     }
 
     // Whether the next reply goes to E4-FA.
     #[tactic(auto, unfolding(crate::specs::Commanding::takes))]
-    pub fn takes(self) -> bool
-        ensures { result ≡ takes self }
+    pub fn takes(&self) -> bool
+        ensures { result ≡ takes self.now }
     {
-        if self.receiving {
-            return self.count < 6;
-        }
-        false
+        self.receiving && self.count < 6
     }
 
     // A reply that goes to E4-FA, if it does.
-    #[tactic(auto, unfolding(crate::specs::Commanding::received))]
-    pub fn received(self, wrong: bool, id: u8, data: u16) -> CommandFrames
-        ensures { result ≡ received self wrong id «data» }
+    #[tactic(auto, unfolding(crate::specs::Commanding::received), using(crate::proofs::Laws::taken_few))]
+    pub fn receive(&mut self, wrong: bool, id: u8, data: u16)
+        ensures { self.new ≡ received self.old wrong id «data» }
     {
-        let mut next = self;
         if self.takes() {
-            let count = next.count;
-            let place = 2 * count as usize;
-            next.replies[place] = id_word(id, wrong);
-            next.replies[place + 1] = data;
-            next.count = count + 1;
-            return next;
+            let place = 2 * usize::from(self.count);
+            self.replies[place] = id_word(id, wrong);
+            self.replies[place + 1] = data;
+            self.count += 1;
         }
-        next
     }
 }

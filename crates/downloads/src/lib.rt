@@ -3,13 +3,12 @@
 
 ghost use Rattle.std.specs.Prelude.{◌≡◌};
 ghost use Rattle.refusal.specs.Refusals.{verdict_number};
-ghost use Rattle.downloads.specs.Portions.{no_download, download_of, portion_refusal, portion_of};
+ghost use Rattle.downloads.specs.Portions.{count_of, portion_refusal, portion_of};
 
-use refusal::{Refusal, Verdict};
+use refusal::Refusal;
 
-#[derive(Clone, Copy)]
+#[derive(Clone, Copy, Debug, PartialEq, Eq)]
 pub struct Download {
-    pub opened: bool,
     // How many words it has.
     pub count: u32,
 }
@@ -18,47 +17,25 @@ pub struct Download {
 pub fn portion<'a>(part: &'a [u32], index: u32, size: u32) -> &'a [u32]
     ensures { result.now ≡ portion_of part.now index size }
 {
-    let start = index as usize;
-    let end = start + size as usize;
-    if end <= part.len() {
-        return &part[start..end];
-    }
-    if start < part.len() {
-        return &part[start..];
-    }
-    &part[..0]
+    let rest = part.get(index as usize..).unwrap_or_default();
+    rest.get(..size as usize).unwrap_or(rest)
 }
 
-impl Download {
-    pub fn none() -> Download
-        ensures { result ≡ no_download }
-    {
-        Download {
-            opened: false,
-            count: 0,
-        }
-    }
+// The count that a download remembers; 0 with none open.
+pub fn count(download: Option<Download>) -> u32
+    ensures { result ≡ count_of download }
+{
+    download.map_or(0, |open| open.count)
+}
 
-    pub fn of(count: u32) -> Download
-        ensures { result ≡ download_of count }
-    {
-        Download {
-            opened: true,
-            count: count,
-        }
+// Whether a portion is refused: with none open, then where its end is past the count.
+pub fn check(download: Option<Download>, index: u32, size: u32) -> Result<(), Refusal>
+    ensures { verdict_number result ≡ portion_refusal download index size }
+{
+    let open = download.ok_or(Refusal::NoDownload)?;
+    // The sum of two numbers of 32 bits may need 33.
+    if u64::from(open.count) < u64::from(index) + u64::from(size) {
+        return Err(Refusal::OutOfRange);
     }
-
-    // Whether a portion is refused: with none open, then where its end is past the count.
-    pub fn check(self, index: u32, size: u32) -> Verdict
-        ensures { verdict_number result ≡ portion_refusal self index size }
-    {
-        if !self.opened {
-            return Verdict::Refused(Refusal::NoDownload);
-        }
-        // The sum of two numbers of 32 bits may need 33.
-        if (self.count as u64) < index as u64 + size as u64 {
-            return Verdict::Refused(Refusal::OutOfRange);
-        }
-        Verdict::Allowed
-    }
+    Ok(())
 }

@@ -1,5 +1,5 @@
 -- Document 02, card 9, on a board of depths 1 and 1 with zeroed words: what each role is answered. A role is the card's seat.
-use Rattle.std.specs.Prelude.{◌≡◌, Bool, true, false, [], replicate}
+use Rattle.std.specs.Prelude.{◌≡◌, Bool, true, false, [], ◌∷◌, replicate}
 use Rattle.channel_core.specs.Answers.{value, frame, done, none, unsolicited, part, part_length}
 use Rattle.channel.specs.OneChannel.{retired, retired_length, readings, portion, portion_length}
 use Rattle.permissions.specs.declared.Role.{Role}
@@ -20,10 +20,7 @@ at_channel cr cw wr ww = record { candidate = rights cr cw; watcher = rights wr 
 abbrev pub rights_given : BoardRights
 rights_given =
     record {
-      first = at_channel false false true false;
-      second = at_channel true true false false;
-      third = at_channel true false false true;
-      fourth = at_channel false true true true;
+      channels = at_channel false false true false ∷ at_channel true true false false ∷ at_channel true false false true ∷ at_channel false true true true ∷ [];
     }
 
 abbrev pub opened : World

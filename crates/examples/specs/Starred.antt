@@ -90,7 +90,7 @@ pub record ResumeRows : Type 0 where
 
 -- the last send was first and last, and used no tag, whatever Frame ID it carried
 abbrev pub first_and_last : (id : ℕ) → LastSend
-first_and_last id = record { sent = true; first = true; paused = false; last = true; id = id; tagged = false; replies = 0 }
+first_and_last id = record { first = true; paused = false; last = true; id = id; tagged = false; replies = 0 }
 
 pub record WordRows : Type 0 where
   -- "D31 with D16: last.", where its place does not make it so (`false`)

@@ -8,10 +8,8 @@ use native.Mathlib.Nat.{mod-lt}
 use lib.Dec.{ltb, eqb, lit<}
 use lib.Pow.{split, shr-shr}
 use borrow.Author.Tests.{lt-ltb, eq-eqb, ltb-true, eqb-true}
-use Rattle.frame.specs.declared.Decoded.{Decoded}
-use Rattle.frame.specs.declared.Decoded.TheVariants as decoded
 use Rattle.frame.specs.Polynomials.{Remainder}
-use Rattle.frame.specs.Frames.{middle, compose, crc_for, encoded, framed, id_of, data_of, aux_of, crc_in, Reading, refused, fields, read, reading_of, crc_right}
+use Rattle.frame.specs.Frames.{middle, compose, crc_for, encoded, framed, id_of, data_of, aux_of, crc_in, Reading, refused, fields, read, crc_right}
 use Rattle.frame.specs.Laws.{Parts}
 use Rattle.frame.proofs.Remainders.{crc_is}
 
@@ -172,9 +170,3 @@ read_one_to_one f g t e =
     ⊎_elim (λ u. one_number f g e (parts_exist f t) (parts_exist g u))
     (λ u. absurd (fields_not_refused (read f) _ _ _ _ 7 (read_framed f t) (e ∙ refused_7 g u)))
     (either_way (framed g))
-
-pub reading_one_to_one : (x y : Decoded) → reading_of x ≡ reading_of y → x ≡ y
-reading_one_to_one decoded.FramingError decoded.FramingError e = refl
-reading_one_to_one decoded.FramingError (decoded.Fields id word aux crc) e = absurd (fields_not_refused _ id word aux crc 7 refl (sym e))
-reading_one_to_one (decoded.Fields id word aux crc) decoded.FramingError e = absurd (fields_not_refused _ id word aux crc 7 refl e)
-reading_one_to_one (decoded.Fields id word aux crc) (decoded.Fields id' word' aux' crc') e = cc

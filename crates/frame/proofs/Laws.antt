@@ -6,6 +6,7 @@ use Rattle.frame.proofs.Multiples as multiples
 use Rattle.frame.proofs.Remainders as remainders
 use Rattle.frame.proofs.Messages as messages
 use Rattle.frame.proofs.Frames as frames
+use Rattle.frame.proofs.Readings as readings
 
 pub polynomial_laws : PolynomialLaws
 polynomial_laws =
@@ -42,5 +43,5 @@ frame_laws =
       read_one_to_one = frames.read_one_to_one;
       refused_7 = frames.refused_7;
       refused_only = frames.refused_only;
-      reading_one_to_one = frames.reading_one_to_one;
+      reading_one_to_one = readings.reading_one_to_one;
     }

@@ -1,10 +1,10 @@
 -- Document 01, 'Frame': "43 bits, high to low: start 0, Frame ID 8, data 16, auxiliary 8, CRC 8, stop 11". `word` is the data, `aux` the auxiliary bits.
-use Rattle.std.specs.Prelude.{Bool, cond, ◌&&◌, ℕ, ◌+◌, ◌*◌, ◌/◌, ◌%◌, ◌^◌, ltb, eqb}
+use Rattle.std.specs.Prelude.{Bool, cond, ◌&&◌, ℕ, ◌+◌, ◌*◌, ◌/◌, ◌%◌, ◌^◌, ltb, eqb, Result, Ok, Err}
 use Rattle.refusal.specs.Refusals.{number_of}
+use Rattle.refusal.specs.declared.Refusal.{Refusal}
 use Rattle.refusal.specs.declared.Refusal.TheVariants as refusal
 use Rattle.frame.specs.Crc.{crc_of}
-use Rattle.frame.specs.declared.Decoded.{Decoded}
-use Rattle.frame.specs.declared.Decoded.TheVariants as decoded
+use Rattle.frame.specs.declared.Fields.{Fields}
 
 -- "the 32 middle bits"
 abbrev pub middle : ℕ → ℕ → ℕ → ℕ
@@ -48,9 +48,9 @@ unfoldable pub read : ℕ → Reading
 read f = cond (framed f) (fields (id_of f) (data_of f) (aux_of f) (crc_in f)) (refused (number_of refusal.FramingError))
 
 -- the paper's number and values for each answer of `frame::decode`
-abbrev pub reading_of : Decoded → Reading
-reading_of decoded.FramingError = refused (number_of refusal.FramingError)
-reading_of (decoded.Fields id word aux crc) = fields id word aux crc
+abbrev pub reading_of : Result Fields Refusal → Reading
+reading_of (Ok f) = fields f.id f.«data» f.auxiliary f.crc
+reading_of (Err r) = refused (number_of r)
 
 -- whether a CRC as received is right for the fields beside it; "CRC wrong" is false
 unfoldable pub crc_right : ℕ → ℕ → ℕ → ℕ → Bool

@@ -1,7 +1,8 @@
 -- Document 01, 'Frame': the laws of the frame and its CRC, as statements. proofs/Laws.antt proves each record.
-use Rattle.std.specs.Prelude.{◌≡◌, Bool, true, false, List, ℕ, ◌+◌, ◌*◌, ◌/◌, ◌%◌, ◌^◌, ◌<◌, get_or}
+use Rattle.std.specs.Prelude.{◌≡◌, Bool, true, false, List, ℕ, ◌+◌, ◌*◌, ◌/◌, ◌%◌, ◌^◌, ◌<◌, get_or, Result}
 use Rattle.std.specs.Int.Bits.{bit_xor}
-use Rattle.frame.specs.declared.Decoded.{Decoded}
+use Rattle.refusal.specs.declared.Refusal.{Refusal}
+use Rattle.frame.specs.declared.Fields.{Fields}
 use Rattle.frame.specs.Polynomials.{from_coefficients, product, Remainder}
 use Rattle.frame.specs.Crc.{crc_of, of_bits, of_bytes, bits_of, bits_in}
 use Rattle.frame.specs.Frames.{middle, compose, crc_for, encoded, framed, refused, fields, read, reading_of, crc_right}
@@ -61,4 +62,4 @@ pub record FrameLaws : Type 0 where
   pub refused_7 : (f : ℕ) → framed f ≡ false → read f ≡ refused 7
   pub refused_only : (f number : ℕ) → read f ≡ refused number → (framed f ≡ false) × (number ≡ 7)
   -- two answers of `frame::decode` that mean the same are the same
-  pub reading_one_to_one : (x y : Decoded) → reading_of x ≡ reading_of y → x ≡ y
+  pub reading_one_to_one : (x y : Result Fields Refusal) → reading_of x ≡ reading_of y → x ≡ y

@@ -1,7 +1,8 @@
 // Opening with rights, and the shared calls by role: tick, event, user change and the interrupt level. What is lent, whether the role may, then the board's own call.
-#![tactic(auto)]
+// A call's contract is what `guard_refusal` comes to: every goal here opens it, and knows that a refusal's number is not 0.
+#![tactic(auto, unfolding(isolation::specs::Calls::answer, isolation::specs::Calls::after, isolation::specs::Calls::words_after, access_control::specs::Guarding::guard_refusal, access_control::specs::Guarding::guarded_answer, access_control::specs::Guarding::guarded_after, access_control::specs::Guarding::guarded_words), using(refusal::proofs::Laws::refuses))]
 
-ghost use Rattle.std.specs.Prelude.{◌≡◌, length};
+ghost use Rattle.std.specs.Prelude.{◌≡◌, Ok, length};
 ghost use Rattle.channel_core.specs.Answers.{line_of, outcome_of};
 ghost use Rattle.permissions.specs.Rights.{rights_at};
 ghost use Rattle.board.specs.Answers.{one, frames_of};
@@ -9,138 +10,92 @@ ghost use Rattle.board.specs.Calls.{open_board, open_answer};
 ghost use Rattle.isolation.specs.Calls as call;
 ghost use Rattle.isolation.specs.Calls.{none, words};
 ghost use Rattle.access_control.specs.Guarding.{shown_frame, shown, guarded, answer_to, board_after, memory_after};
-ghost use Rattle.guarded_board.specs.Answers.{level_answer_of};
+ghost use Rattle.guarded_board.specs.Answers.{guarded_board_of, guarded_opening_of, level_answer_of};
 
-use access_control::{GuardedBoard, Written};
-use board::Frames;
-use channel_core::{Line, Outcome};
+use access_control::GuardedBoard;
 use permissions::{BoardRights, Role};
-use refusal::{Refusal, Verdict};
+use refusal::Refusal;
 
-// The board after a tick, and the frames that the role is shown.
-#[derive(Clone, Copy)]
-pub struct Ticked {
-    pub board: GuardedBoard,
-    pub frames: Frames,
-}
-
-#[derive(Clone, Copy)]
-pub enum InterruptLevel {
-    Level(u8),
-    Refused(Refusal),
-}
-
-// Opens a board on the memory lent, with these rights, or refuses and answers a closed one beside it, with them too.
-pub fn open(n: u32, m: u32, rights: BoardRights, setpoints: &[u32], readbacks: &[u32]) -> Written
-    ensures { (result.board ≡ guarded (open_board n m (length setpoints.now) (length readbacks.now)) rights) × (outcome_of result.outcome ≡ open_answer n m (length setpoints.now) (length readbacks.now)) }
+// Opens a board on the memory lent, with these rights.
+pub fn open(
+    n: u32,
+    m: u32,
+    rights: BoardRights,
+    setpoints: &[u32],
+    readbacks: &[u32],
+) -> Result<GuardedBoard, Refusal>
+    ensures board { guarded_board_of result rights ≡ guarded (open_board n m (length setpoints.now) (length readbacks.now)) rights }
+    ensures answer { guarded_opening_of result ≡ open_answer n m (length setpoints.now) (length readbacks.now) }
 {
-    access_control::with_rights(board::open(n, m, setpoints, readbacks), rights)
+    let board = board::open(n, m, setpoints, readbacks)?;
+    Ok(GuardedBoard { board, rights })
 }
 
 // A channel's frame as the role is shown it.
-fn shown_line(rights: BoardRights, role: Role, number: u32, line: Line) -> Line
-    ensures { line_of result ≡ shown_frame (rights_at rights number) role (line_of line) }
+fn shown_frame(rights: &BoardRights, role: Role, number: u32, frame: Option<u64>) -> Option<u64>
+    ensures { line_of result ≡ shown_frame (rights_at rights.now number) role (line_of frame) }
 {
     if rights.may_read(role, number) {
-        return line;
+        frame
+    } else {
+        None
     }
-    Line::Silent
 }
 
-fn shown_frames(rights: BoardRights, role: Role, frames: Frames) -> Frames
-    ensures { frames_of result ≡ shown rights role (frames_of frames) }
+fn shown_frames(rights: &BoardRights, role: Role, frames: [Option<u64>; 4]) -> [Option<u64>; 4]
+    ensures { frames_of (Ok result) ≡ shown rights.now role (frames_of (Ok frames)) }
 {
-    match frames {
-        Frames::Each(first, second, third, fourth) => {
-            let first_line = shown_line(rights, role, 1, first);
-            let second_line = shown_line(rights, role, 2, second);
-            let third_line = shown_line(rights, role, 3, third);
-            let fourth_line = shown_line(rights, role, 4, fourth);
-            Frames::Each(first_line, second_line, third_line, fourth_line)
-        }
-        Frames::Refused(reason) => Frames::Refused(reason),
-    }
+    let [first, second, third, fourth] = frames;
+    [
+        shown_frame(rights, role, 1, first),
+        shown_frame(rights, role, 2, second),
+        shown_frame(rights, role, 3, third),
+        shown_frame(rights, role, 4, fourth),
+    ]
 }
 
 // A frame that is not shown is sent all the same.
-#[tactic(auto, unfolding(access_control::specs::Guarding::guard_refusal, isolation::specs::Calls::answer, isolation::specs::Calls::after))]
-pub fn tick(g: GuardedBoard, role: Role, setpoints: &[u32]) -> Ticked
-    ensures { (result.board ≡ board_after g role call.tick (words setpoints.now)) × (frames_of result.frames ≡ answer_to g role call.tick (words setpoints.now)) }
+pub fn tick(
+    g: &mut GuardedBoard,
+    role: Role,
+    setpoints: &[u32],
+) -> Result<[Option<u64>; 4], Refusal>
+    ensures board { g.new ≡ board_after g.old role call.tick (words setpoints.now) }
+    ensures answer { frames_of result ≡ answer_to g.old role call.tick (words setpoints.now) }
 {
-    let board = g.board;
-    let rights = g.rights;
-    let length_verdict = access_control::check_length(setpoints.len(), board.n as usize * 64);
-    let verdict = access_control::check_permission(length_verdict, permissions::may_tick(role));
-    match verdict {
-        Verdict::Allowed => {
-            let ticked = board::tick(board, setpoints);
-            let next = ticked.board;
-            let frames = ticked.frames;
-            Ticked {
-                board: GuardedBoard {
-                    board: next,
-                    rights: rights,
-                },
-                frames: shown_frames(rights, role, frames),
-            }
-        }
-        Verdict::Refused(reason) => Ticked {
-            board: g,
-            frames: Frames::Refused(reason),
-        },
-    }
+    g.board.check_setpoints(setpoints)?;
+    access_control::check_permission(role.may_tick())?;
+    let frames = board::tick(&mut g.board, setpoints)?;
+    Ok(shown_frames(&g.rights, role, frames))
 }
 
-#[tactic(auto, unfolding(access_control::specs::Guarding::guard_refusal, isolation::specs::Calls::answer, isolation::specs::Calls::after, isolation::specs::Calls::words_after))]
-pub fn event(g: GuardedBoard, role: Role, readbacks: &mut [u32], code: u8) -> Written
-    ensures { (result.board ≡ board_after g role (call.event code) (words readbacks.old)) × (one (outcome_of result.outcome) ≡ answer_to g role (call.event code) (words readbacks.old)) × (readbacks.new ≡ memory_after g role (call.event code) readbacks.old) }
+pub fn event(
+    g: &mut GuardedBoard,
+    role: Role,
+    readbacks: &mut [u32],
+    code: u8,
+) -> Result<(), Refusal>
+    ensures board { g.new ≡ board_after g.old role (call.event code) (words readbacks.old) }
+    ensures answer { one (outcome_of result) ≡ answer_to g.old role (call.event code) (words readbacks.old) }
+    ensures words { readbacks.new ≡ memory_after g.old role (call.event code) readbacks.old }
 {
-    let board = g.board;
-    let rights = g.rights;
-    let length_verdict = access_control::check_length(readbacks.len(), board.m as usize * 8);
-    let verdict = access_control::check_permission(length_verdict, permissions::may_tick(role));
-    match verdict {
-        Verdict::Allowed => access_control::with_rights(
-            board::event(board, readbacks, code),
-            rights,
-        ),
-        Verdict::Refused(reason) => Written {
-            board: g,
-            outcome: Outcome::Refused(reason),
-        },
-    }
+    g.board.check_readbacks(readbacks)?;
+    access_control::check_permission(role.may_tick())?;
+    board::event(&mut g.board, readbacks, code)
 }
 
-#[tactic(auto, unfolding(access_control::specs::Guarding::guard_refusal, isolation::specs::Calls::answer, isolation::specs::Calls::after))]
-pub fn change_user(g: GuardedBoard, role: Role, user: u32) -> Written
-    ensures { (result.board ≡ board_after g role (call.change_user user) none) × (one (outcome_of result.outcome) ≡ answer_to g role (call.change_user user) none) }
+pub fn change_user(g: &mut GuardedBoard, role: Role, user: u32) -> Result<(), Refusal>
+    ensures board { g.new ≡ board_after g.old role (call.change_user user) none }
+    ensures answer { one (outcome_of result) ≡ answer_to g.old role (call.change_user user) none }
 {
-    let board = g.board;
-    let rights = g.rights;
-    let verdict = access_control::check_permission(
-        Verdict::Allowed,
-        permissions::is_examiner(role),
-    );
-    match verdict {
-        Verdict::Allowed => access_control::with_rights(board::change_user(board, user), rights),
-        Verdict::Refused(reason) => Written {
-            board: g,
-            outcome: Outcome::Refused(reason),
-        },
-    }
+    access_control::check_permission(role.is_examiner())?;
+    board::change_user(&mut g.board, user)
 }
 
 // The board stays as it is.
-#[tactic(auto, unfolding(access_control::specs::Guarding::guard_refusal, isolation::specs::Calls::answer))]
-pub fn interrupt_level(g: GuardedBoard, role: Role) -> InterruptLevel
-    ensures { one (level_answer_of result) ≡ answer_to g role call.interrupt_level none }
+pub fn interrupt_level(g: &GuardedBoard, role: Role) -> Result<u8, Refusal>
+    ensures { one (level_answer_of result) ≡ answer_to g.now role call.interrupt_level none }
 {
-    let verdict = access_control::check_permission(
-        Verdict::Allowed,
-        permissions::is_examiner(role),
-    );
-    match verdict {
-        Verdict::Allowed => InterruptLevel::Level(board::interrupt_level(g.board)),
-        Verdict::Refused(reason) => InterruptLevel::Refused(reason),
-    }
+    access_control::check_permission(role.is_examiner())?;
+    Ok(board::interrupt_level(&g.board))
 }

@@ -1,5 +1,6 @@
 // The calls that change a channel by its number, by role: setpoint write, arm, disarm and reply. What is lent, the number, whether the role may write, then the board's own call.
-#![tactic(auto)]
+// A call's contract is what `guard_refusal` comes to: every goal here opens it, and knows that a refusal's number is not 0.
+#![tactic(auto, unfolding(isolation::specs::Calls::answer, isolation::specs::Calls::after, isolation::specs::Calls::words_after, access_control::specs::Guarding::guard_refusal, access_control::specs::Guarding::guarded_answer, access_control::specs::Guarding::guarded_after, access_control::specs::Guarding::guarded_words), using(refusal::proofs::Laws::refuses))]
 
 ghost use Rattle.std.specs.Prelude.{◌≡◌, cond, not};
 ghost use Rattle.refusal.specs.Refusals.{verdict_number};
@@ -12,33 +13,22 @@ ghost use Rattle.isolation.specs.Calls as call;
 ghost use Rattle.isolation.specs.Calls.{none, words};
 ghost use Rattle.access_control.specs.Guarding.{channel_refusal, permission_denied, answer_to, board_after, memory_after};
 
-use access_control::{GuardedBoard, Written};
-use channel_core::Outcome;
+use access_control::GuardedBoard;
 use channel_replies::Receipt;
 use permissions::{BoardRights, Role};
-use refusal::Verdict;
+use refusal::Refusal;
 
-// The board after a reply, and what became of it.
-#[derive(Clone, Copy)]
-pub struct Received {
-    pub board: GuardedBoard,
-    pub receipt: Receipt,
-}
-
-// Whether a call that writes to the named channel is refused before it is made: by this verdict, the number, then the right.
-fn check_writing(verdict: Verdict, rights: BoardRights, role: Role, number: u32) -> Verdict
-    ensures { verdict_number result ≡ then (then (verdict_number verdict) (channel_refusal number)) (cond (not (may_write (rights_at rights number) role)) permission_denied 0) }
+// Whether a call that writes to the named channel is refused before it is made: the number, then the right.
+fn check_writing(rights: &BoardRights, role: Role, number: u32) -> Result<(), Refusal>
+    ensures { verdict_number result ≡ then (channel_refusal number) (cond (not (may_write (rights_at rights.now number) role)) permission_denied 0) }
 {
-    access_control::check_permission(
-        access_control::check_channel(verdict, number),
-        rights.may_write(role, number),
-    )
+    board_state::check_channel(number)?;
+    access_control::check_permission(rights.may_write(role, number))
 }
 
 // The board stays as it is.
-#[tactic(auto, unfolding(access_control::specs::Guarding::guard_refusal, isolation::specs::Calls::answer, isolation::specs::Calls::words_after))]
 pub fn write_setpoint(
-    g: GuardedBoard,
+    g: &GuardedBoard,
     role: Role,
     setpoints: &mut [u32],
     number: u32,
@@ -46,86 +36,43 @@ pub fn write_setpoint(
     buffer: u32,
     index: u32,
     word: u32,
-) -> Outcome
-    ensures { (one (outcome_of result) ≡ answer_to g role (call.write_setpoint number user buffer index word) (words setpoints.old)) × (setpoints.new ≡ memory_after g role (call.write_setpoint number user buffer index word) setpoints.old) }
+) -> Result<(), Refusal>
+    ensures answer { one (outcome_of result) ≡ answer_to g.now role (call.write_setpoint number user buffer index word) (words setpoints.old) }
+    ensures words { setpoints.new ≡ memory_after g.now role (call.write_setpoint number user buffer index word) setpoints.old }
 {
-    let board = g.board;
-    let rights = g.rights;
-    let length_verdict = access_control::check_length(setpoints.len(), board.n as usize * 64);
-    let verdict = check_writing(length_verdict, rights, role, number);
-    match verdict {
-        Verdict::Allowed => board_channels::write_setpoint(
-            board, setpoints, number, user, buffer, index, word,
-        ),
-        Verdict::Refused(reason) => Outcome::Refused(reason),
-    }
+    g.board.check_setpoints(setpoints)?;
+    check_writing(&g.rights, role, number)?;
+    board_channels::write_setpoint(&g.board, setpoints, number, user, buffer, index, word)
 }
 
-#[tactic(auto, unfolding(access_control::specs::Guarding::guard_refusal, isolation::specs::Calls::answer, isolation::specs::Calls::after))]
-pub fn arm(g: GuardedBoard, role: Role, number: u32) -> Written
-    ensures { (result.board ≡ board_after g role (call.arm number) none) × (one (outcome_of result.outcome) ≡ answer_to g role (call.arm number) none) }
+pub fn arm(g: &mut GuardedBoard, role: Role, number: u32) -> Result<(), Refusal>
+    ensures board { g.new ≡ board_after g.old role (call.arm number) none }
+    ensures answer { one (outcome_of result) ≡ answer_to g.old role (call.arm number) none }
 {
-    let board = g.board;
-    let rights = g.rights;
-    let verdict = check_writing(Verdict::Allowed, rights, role, number);
-    match verdict {
-        Verdict::Allowed => access_control::with_rights(board_channels::arm(board, number), rights),
-        Verdict::Refused(reason) => Written {
-            board: g,
-            outcome: Outcome::Refused(reason),
-        },
-    }
+    check_writing(&g.rights, role, number)?;
+    board_channels::arm(&mut g.board, number)
 }
 
-#[tactic(auto, unfolding(access_control::specs::Guarding::guard_refusal, isolation::specs::Calls::answer, isolation::specs::Calls::after))]
-pub fn disarm(g: GuardedBoard, role: Role, number: u32) -> Written
-    ensures { (result.board ≡ board_after g role (call.disarm number) none) × (one (outcome_of result.outcome) ≡ answer_to g role (call.disarm number) none) }
+pub fn disarm(g: &mut GuardedBoard, role: Role, number: u32) -> Result<(), Refusal>
+    ensures board { g.new ≡ board_after g.old role (call.disarm number) none }
+    ensures answer { one (outcome_of result) ≡ answer_to g.old role (call.disarm number) none }
 {
-    let board = g.board;
-    let rights = g.rights;
-    let verdict = check_writing(Verdict::Allowed, rights, role, number);
-    match verdict {
-        Verdict::Allowed => access_control::with_rights(
-            board_channels::disarm(board, number),
-            rights,
-        ),
-        Verdict::Refused(reason) => Written {
-            board: g,
-            outcome: Outcome::Refused(reason),
-        },
-    }
+    check_writing(&g.rights, role, number)?;
+    board_channels::disarm(&mut g.board, number)
 }
 
-#[tactic(auto, unfolding(access_control::specs::Guarding::guard_refusal, isolation::specs::Calls::answer, isolation::specs::Calls::after, isolation::specs::Calls::words_after))]
 pub fn reply(
-    g: GuardedBoard,
+    g: &mut GuardedBoard,
     role: Role,
     readbacks: &mut [u32],
     number: u32,
     frame: u64,
-) -> Received
-    ensures { (result.board ≡ board_after g role (call.reply number frame) (words readbacks.old)) × (one (receipt_of result.receipt) ≡ answer_to g role (call.reply number frame) (words readbacks.old)) × (readbacks.new ≡ memory_after g role (call.reply number frame) readbacks.old) }
+) -> Result<Receipt, Refusal>
+    ensures board { g.new ≡ board_after g.old role (call.reply number frame) (words readbacks.old) }
+    ensures answer { one (receipt_of result) ≡ answer_to g.old role (call.reply number frame) (words readbacks.old) }
+    ensures words { readbacks.new ≡ memory_after g.old role (call.reply number frame) readbacks.old }
 {
-    let board = g.board;
-    let rights = g.rights;
-    let length_verdict = access_control::check_length(readbacks.len(), board.m as usize * 8);
-    let verdict = check_writing(length_verdict, rights, role, number);
-    match verdict {
-        Verdict::Allowed => {
-            let received = board_channels::reply(board, readbacks, number, frame);
-            let next = received.board;
-            let receipt = received.receipt;
-            Received {
-                board: GuardedBoard {
-                    board: next,
-                    rights: rights,
-                },
-                receipt: receipt,
-            }
-        }
-        Verdict::Refused(reason) => Received {
-            board: g,
-            receipt: Receipt::Refused(reason),
-        },
-    }
+    g.board.check_readbacks(readbacks)?;
+    check_writing(&g.rights, role, number)?;
+    board_channels::reply(&mut g.board, readbacks, number, frame)
 }

@@ -7,51 +7,21 @@ ghost use Rattle.isolation.specs.Calls.{open_download, query, none, buffers};
 ghost use Rattle.access_control.specs.Guarding.{answer_to, board_after, part_in};
 
 use access_control::GuardedBoard;
-use channel::PartLength;
 use permissions::Role;
-use refusal::Verdict;
+use refusal::Refusal;
 
-// The board after a download was opened, and the count that it remembers, or the refusal.
-#[derive(Clone, Copy)]
-pub struct Opened {
-    pub board: GuardedBoard,
-    pub length: PartLength,
-}
-
-#[tactic(auto, unfolding(access_control::specs::Guarding::guard_refusal, isolation::specs::Calls::answer, isolation::specs::Calls::after))]
-pub fn open(g: GuardedBoard, role: Role, number: u32) -> Opened
-    ensures { (result.board ≡ board_after g role (open_download number) none) × (answers.one (length_of result.length) ≡ answer_to g role (open_download number) none) }
+// The count that it remembers.
+pub fn open(g: &mut GuardedBoard, role: Role, number: u32) -> Result<usize, Refusal>
+    ensures board { g.new ≡ board_after g.old role (open_download number) none }
+    ensures answer { answers.one (length_of result) ≡ answer_to g.old role (open_download number) none }
 {
-    let board = g.board;
-    let rights = g.rights;
-    let verdict = access_control::check_permission(
-        access_control::check_channel(Verdict::Allowed, number),
-        rights.may_read(role, number),
-    );
-    match verdict {
-        Verdict::Allowed => {
-            let opened = board_downloads::open(board, number);
-            let next = opened.board;
-            let length = opened.length;
-            Opened {
-                board: GuardedBoard {
-                    board: next,
-                    rights: rights,
-                },
-                length: length,
-            }
-        }
-        Verdict::Refused(reason) => Opened {
-            board: g,
-            length: PartLength::Refused(reason),
-        },
-    }
+    super::check_reading(&g.rights, role, number)?;
+    board_downloads::open(&mut g.board, number)
 }
 
 // `size` words of the named channel's download, from `index` on; empty where refused.
-#[tactic(auto, unfolding(isolation::specs::Calls::answer))]
 pub fn portion<'a>(
-    g: GuardedBoard,
+    g: &GuardedBoard,
     role: Role,
     number: u32,
     index: u32,
@@ -59,36 +29,28 @@ pub fn portion<'a>(
     one: &'a [u32],
     two: &'a [u32],
 ) -> &'a [u32]
-    ensures { result.now ≡ part_in (answer_to g role (query number (which.portion index size)) (buffers one.now two.now)) }
+    ensures { result.now ≡ part_in (answer_to g.now role (query number (which.portion index size)) (buffers one.now two.now)) }
 {
-    let rights = g.rights;
-    if rights.may_read(role, number) {
-        return board_downloads::portion(g.board, number, index, size, one, two);
+    if g.rights.may_read(role, number) {
+        board_downloads::portion(&g.board, number, index, size, one, two)
+    } else {
+        &[]
     }
-    &one[..0]
 }
 
 // The length of what `portion` gives, or the refusal.
-#[tactic(auto, unfolding(access_control::specs::Guarding::guard_refusal, isolation::specs::Calls::answer))]
-pub fn portion_length<'a>(
-    g: GuardedBoard,
+pub fn portion_length(
+    g: &GuardedBoard,
     role: Role,
     number: u32,
     index: u32,
     size: u32,
-    one: &'a [u32],
-    two: &'a [u32],
-) -> PartLength
-    ensures { answers.one (length_of result) ≡ answer_to g role (query number (which.portion_length index size)) (buffers one.now two.now) }
+    one: &[u32],
+    two: &[u32],
+) -> Result<usize, Refusal>
+    ensures { answers.one (length_of result) ≡ answer_to g.now role (query number (which.portion_length index size)) (buffers one.now two.now) }
 {
-    let board = g.board;
-    let rights = g.rights;
-    let verdict = access_control::check_permission(
-        board_channels::check_buffers(board, number, one.len(), two.len()),
-        rights.may_read(role, number),
-    );
-    match verdict {
-        Verdict::Allowed => board_downloads::portion_length(board, number, index, size, one, two),
-        Verdict::Refused(reason) => PartLength::Refused(reason),
-    }
+    board_channels::check_buffers(&g.board, number, one.len(), two.len())?;
+    access_control::check_permission(g.rights.may_read(role, number))?;
+    board_downloads::portion_length(&g.board, number, index, size, one, two)
 }

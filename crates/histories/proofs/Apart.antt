@@ -6,6 +6,9 @@ use mathlib.Core.List.{List}
 use native.Mathlib.Omega.{arith}
 use lib.Dec.{eqb, leb}
 use borrow.Author.Tests.{lt-leb}
+use Rattle.std.specs.declared.option.Option.{Option}
+use Rattle.std.specs.Option.{is_some}
+use Rattle.std.specs.declared.option.Option.TheVariants.{Some}
 use Rattle.frame.specs.Frames.{Reading, read, crc_right}
 use Rattle.frame.specs.Frames as frame
 use Rattle.status.specs.Bits.{bit_at}
@@ -15,15 +18,15 @@ use Rattle.sequencer.specs.declared.LastSend.{LastSend}
 use Rattle.sequencer.specs.declared.Stage.{Stage}
 use Rattle.sequencer.specs.declared.Stage.TheVariants as stage
 use Rattle.sequencer.specs.declared.Sequencer.{Sequencer}
-use Rattle.sequencer.specs.declared.Transmission.{Transmission}
-use Rattle.sequencer.specs.declared.Transmission.TheVariants as transmission
+use Rattle.sequencer.specs.Transmissions.{Transmission}
+use Rattle.sequencer.specs.Transmissions as transmission
 use Rattle.sequencer.specs.Playing.{is_idle, nothing_sent, advancing, ticked, ticked_at, loaded_resume}
 use Rattle.sequencer.specs.Playing as seq
 use Rattle.sequencer.proofs.Moves.{resumed_either}
 use Rattle.readback.specs.declared.Disposition.{Disposition}
 use Rattle.readback.specs.declared.Disposition.TheVariants as disposition
 use Rattle.command_frames.specs.declared.CommandFrames.{CommandFrames}
-use Rattle.command_frames.specs.declared.Waiting.TheVariants as waiting
+use Rattle.command_frames.specs.declared.Trigger.TheVariants as trigger
 use Rattle.command_frames.specs.Commanding.{is_due, requested, sent, takes, received}
 use Rattle.command_frames.specs.Commanding as cmd
 use Rattle.command_frames.proofs.Laws.{ticked_due}
@@ -36,7 +39,7 @@ use Rattle.channel.specs.Calls.{armed_of, disarmed_of}
 use Rattle.channel.proofs.Cases.{clash, either, by_test}
 use Rattle.histories.specs.Windows.{Window}
 use Rattle.histories.specs.Ranges.{ApartAt, Apart, Quiet}
-use Rattle.histories.proofs.Ticks.{window_of, window_sent, plays_ticked}
+use Rattle.histories.proofs.Ticks.{window_of, window_sent, reply_leaves, plays_ticked}
 
 abbrev pub ApartIn : Channel → Type 0
 ApartIn c = Apart c.commands c.sequencer
@@ -77,7 +80,7 @@ idle_apart stage.Ended left e = clash e
 -- idle, with nothing sent, whatever waits
 apart_idle : (f : CommandFrames) (s : Sequencer) → s.stage ≡ stage.Idle → s.last ≡ nothing_sent → Apart f s
 apart_idle f s e l =
-    let unsent = ap (λ (x : LastSend). x.sent) l in
+    let unsent = ap (λ (x : Option LastSend). is_some x) l in
     record {
       due = λ d. subst (λ (g : Stage). ApartAt g s.left) (sym e) tt;
       due_unsent = λ d. unsent;
@@ -113,7 +116,9 @@ module _ (f : CommandFrames) (s : Sequencer) (p : Apart f s) where
 
   apart_answered : Apart f (seq.answered s)
   unfolding seq.answered
-  apart_answered = record { due = p.due; due_unsent = p.due_unsent; receiving_unsent = p.receiving_unsent }
+  apart_answered =
+      let a = reply_leaves s.last in
+      record { due = p.due; due_unsent = λ d. a.0 ∙ p.due_unsent d; receiving_unsent = λ r. a.0 ∙ p.receiving_unsent r }
 
   -- in a pause nothing is due
   apart_loaded : (k delay : ℕ) → s.stage ≡ stage.Paused k → Apart f (loaded_resume s delay)
@@ -138,10 +143,10 @@ module _ (f : CommandFrames) (s : Sequencer) (p : Apart f s) where
       idle false i e n = clash (sym n)
 
       go : (a b : Bool) → (a && not (s.armed && is_idle s.stage)) ≡ false
-          → Apart (cmd.with_waiting f (cond a waiting.NextTick (cond b waiting.GroupEnd f.waiting))) s
+          → Apart (cmd.with_waiting f (cond a (Some trigger.NextTick) (cond b (Some trigger.GroupEnd) f.waiting))) s
       go true b n =
           let i = idle s.armed (is_idle s.stage) refl n in
-          let unsent = ap (λ (x : LastSend). x.sent) (q i) in
+          let unsent = ap (λ (x : Option LastSend). is_some x) (q i) in
           record { due = λ d. idle_apart s.stage s.left i; due_unsent = λ d. unsent; receiving_unsent = p.receiving_unsent }
       go false true n = record { due = λ d. clash d; due_unsent = λ d. clash d; receiving_unsent = p.receiving_unsent }
       go false false n = p
@@ -167,12 +172,12 @@ module _ (f : CommandFrames) (s : Sequencer) (p : Apart f s) where
       window : window_of (ticked s due n period id).sequencer ≡ window_sent id (ticked s due n period id).transmission (window_of s)
       window = (plays_ticked s due n period id).window
 
-      unsent : (b : Bool) → is_due f.waiting ≡ b → (cond b (sent f) f).receiving ≡ true → s.last.sent ≡ false
+      unsent : (b : Bool) → is_due f.waiting ≡ b → (cond b (sent f) f).receiving ≡ true → is_some s.last ≡ false
       unsent true d r = p.due_unsent d
       unsent false d r = p.receiving_unsent r
 
       go : (y : Transmission) → (ticked s due n period id).transmission ≡ y → (cmd.ticked f (is_setpoint y)).receiving ≡ true
-          → (ticked s due n period id).sequencer.last.sent ≡ false
+          → is_some (ticked s due n period id).sequencer.last ≡ false
       go transmission.Nothing d r =
           ap (λ (w : Window). w.sent) (window ∙ ap (λ (z : Transmission). window_sent id z (window_of s)) d) ∙ unsent (is_due f.waiting) refl r
       go (transmission.Word word k) d r = clash r

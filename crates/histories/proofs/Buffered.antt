@@ -13,7 +13,7 @@ use Rattle.status.specs.Bits.{bit_at}
 use Rattle.registers.specs.declared.Registers.{Registers}
 use Rattle.registers.specs.Map.{second_active, readback_place, triggers_of, group_end_event, stored}
 use Rattle.registers.proofs.Laws.{readbacks_switch}
-use Rattle.sequencer.specs.Playing.{is_idle}
+use Rattle.sequencer.specs.Playing.{is_idle, send_of}
 use Rattle.readback.specs.declared.Readbacks.{Readbacks}
 use Rattle.readback.specs.declared.Disposition.{Disposition}
 use Rattle.readback.specs.declared.Disposition.TheVariants as disposition
@@ -174,7 +174,7 @@ reply_buffered o f = go (read f)
   where
     taken : (id word aux crc : ℕ) (b : Bool)
         → let d = disposition_now o.channel o.m in
-        let x = stored_word o.channel.sequencer.last o.user (not (crc_right id word aux crc)) id word in
+        let x = stored_word (send_of o.channel.sequencer.last) o.user (not (crc_right id word aux crc)) id word in
         Buffered o
         (with_readbacks
         (with_channel o

@@ -10,8 +10,8 @@ use Rattle.frame.specs.Frames.{Reading, read, crc_right}
 use Rattle.frame.specs.Frames as frame
 use Rattle.status.specs.Bits.{bit_at}
 use Rattle.registers.specs.Map.{triggers_of, group_end_event, stored}
-use Rattle.sequencer.specs.declared.Transmission.{Transmission}
-use Rattle.sequencer.specs.declared.Transmission.TheVariants as transmission
+use Rattle.sequencer.specs.Transmissions.{Transmission}
+use Rattle.sequencer.specs.Transmissions as transmission
 use Rattle.readback.specs.declared.Disposition.{Disposition}
 use Rattle.readback.specs.declared.Disposition.TheVariants as disposition
 use Rattle.command_frames.specs.declared.CommandFrames.{CommandFrames}

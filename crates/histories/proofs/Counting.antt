@@ -5,7 +5,7 @@ use mathlib.Core.Bool.{Bool, true, false, cond, ◌||◌}
 use mathlib.Core.List.{List, [], ◌∷◌}
 use native.Mathlib.Omega.{arith}
 use Rattle.sequencer.specs.Playing.{counted}
-use Rattle.sequencer.specs.declared.Transmission.TheVariants as transmission
+use Rattle.sequencer.specs.Transmissions as transmission
 use Rattle.sequencer.proofs.Moves.{counted_with}
 use Rattle.channel_core.specs.State as state
 use Rattle.channel.specs.OneChannel.{ChannelCall, OneChannel, one_channel, transition, transitions}

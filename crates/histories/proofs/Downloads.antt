@@ -11,8 +11,11 @@ use lib.Dec.{eqb, leb, ltb}
 use borrow.Author.Tests.{eq-eqb, leb-true, leb-false, lt-ltb, le-ltb}
 use Rattle.status.specs.Bits.{bit_at}
 use Rattle.registers.specs.Map.{second_active, readback_place, triggers_of, group_end_event}
+use Rattle.std.specs.declared.option.Option.{Option}
+use Rattle.std.specs.declared.option.Option.TheVariants.{Some, None}
+use Rattle.std.specs.Option.{is_some, IfSome}
 use Rattle.downloads.specs.declared.Download.{Download}
-use Rattle.downloads.specs.Portions.{no_download, download_of}
+use Rattle.downloads.specs.Portions.{no_download, download_of, count_of}
 use Rattle.downloads.specs.Portions as portions
 use Rattle.readback.specs.Storing.{retired_part}
 use Rattle.channel_core.specs.declared.Channel.{Channel}
@@ -25,7 +28,7 @@ use Rattle.channel.specs.Calls.{armed_of, disarmed_of}
 use Rattle.channel.specs.Downloads.{download_opened}
 use Rattle.channel.specs.OneChannel.{ChannelCall, OneChannel, one_channel, refusal_of, effect, answer, transition, response, transitions, retired_of, portion_in, buffer_one, buffer_two}
 use Rattle.channel.specs.OneChannel as call
-use Rattle.channel.proofs.Cases.{either}
+use Rattle.channel.proofs.Cases.{clash, either}
 use Rattle.histories.specs.History.{entry, history, asks, ends_group, resets, opens_download}
 use Rattle.histories.specs.Keeping.{Kept, kept_after, kept_over}
 use Rattle.histories.specs.Ranges.{ChannelInRange}
@@ -93,20 +96,20 @@ download_step o k =
 
 -- ---- Whether one is open
 
-opened_step : (o : OneChannel) (k : ChannelCall) → (transition o k).channel.download.opened ≡ open_after o.channel.download.opened (entry o k)
+opened_step : (o : OneChannel) (k : ChannelCall) → is_some (transition o k).channel.download ≡ open_after (is_some o.channel.download) (entry o k)
 opened_step o k =
-    ap (λ (d : Download). d.opened) (download_step o k) ∙ go (ends_group (entry o k)) (resets (entry o k)) (opens_download (entry o k))
+    ap (λ (d : Option Download). is_some d) (download_step o k) ∙ go (ends_group (entry o k)) (resets (entry o k)) (opens_download (entry o k))
   where
     go : (ends again opens : Bool)
-        → (cond ends no_download (cond again no_download (cond opens (download_of o.channel.readbacks.retired) o.channel.download))).opened
-        ≡ cond ends false (cond again false (opens || o.channel.download.opened))
+        → is_some (cond ends no_download (cond again no_download (cond opens (download_of o.channel.readbacks.retired) o.channel.download)))
+        ≡ cond ends false (cond again false (opens || is_some o.channel.download))
     go true again opens = refl
     go false true opens = refl
     go false false true = refl
     go false false false = refl
 
 opened_from : (o : OneChannel) (ks : List ChannelCall)
-    → (transitions o ks).channel.download.opened ≡ open_since o.channel.download.opened (history o ks)
+    → is_some (transitions o ks).channel.download ≡ open_since (is_some o.channel.download) (history o ks)
 unfolding open_since
 opened_from o [] = refl
 opened_from o (k ∷ ks) =
@@ -116,10 +119,14 @@ opened_from o (k ∷ ks) =
 
 module _ (o : OneChannel) (m : ℕ) (g : Kept) (d : o.m ≡ m) (l : length o.readbacks ≡ m * 2) (r : ChannelInRange o.m o.channel) (h : HoldsIn o g) where
   -- an open download is of the retired part
-  count_retired : o.channel.download.opened ≡ true → o.channel.download.count ≡ o.channel.readbacks.retired
-  count_retired e = r.download ∙ ap (λ (b : Bool). cond b o.channel.readbacks.retired 0) e
+  count_retired : is_some o.channel.download ≡ true → count_of o.channel.download ≡ o.channel.readbacks.retired
+  count_retired = go o.channel.download r.download
+    where
+      go : (d : Option Download) → IfSome d (λ x. x.count ≡ o.channel.readbacks.retired) → is_some d ≡ true → count_of d ≡ o.channel.readbacks.retired
+      go None h e = clash e
+      go (Some x) h e = h
 
-  part_held : o.channel.download.opened ≡ true → (index size : ℕ) → portion_in o index size ≡ take size (drop index g.retired)
+  part_held : is_some o.channel.download ≡ true → (index size : ℕ) → portion_in o index size ≡ take size (drop index g.retired)
   unfolding portion_in retired_of
   part_held e index size =
       ap
@@ -127,11 +134,11 @@ module _ (o : OneChannel) (m : ℕ) (g : Kept) (d : o.m ≡ m) (l : length o.rea
       portions.portion_of (retired_part (second_active o.channel.registers readback_place) k (buffer_one o) (buffer_two o)) index size) (count_retired e)
       ∙ ap (λ (s : List ℕ). take size (drop index s)) (retired_held o m g d l r h)
 
-  count_held : o.channel.download.opened ≡ true → o.channel.download.count ≡ length g.retired
+  count_held : is_some o.channel.download ≡ true → count_of o.channel.download ≡ length g.retired
   count_held e = count_retired e ∙ h.retired
 
   served : (tell : List ℕ → Answer) (result : Answer) (index size : ℕ)
-      → (index + size ≤ length g.retired → tell (take size (drop index g.retired)) ≡ result) → (b : Bool) → o.channel.download.opened ≡ b
+      → (index + size ≤ length g.retired → tell (take size (drop index g.retired)) ≡ result) → (b : Bool) → is_some o.channel.download ≡ b
       → let k = portions.portion_refusal o.channel.download index size in
       cond (eqb k 0) (tell (portion_in o index size)) (refused k) ≡ cond b (cond (leb (index + size) (length g.retired)) result (refused 2)) (refused 12)
   served tell result index size same false e = rw e
@@ -147,7 +154,7 @@ module _ (o : OneChannel) (m : ℕ) (g : Kept) (d : o.m ≡ m) (l : length o.rea
   portion_long : (index size : ℕ) → index + size ≤ length g.retired → length (take size (drop index g.retired)) ≡ size
   portion_long index size within = length-take-le size (drop index g.retired) (omega (arith, length-drop index g.retired))
 
-  serves : (b : Bool) → o.channel.download.opened ≡ b → Serves o m b g.retired
+  serves : (b : Bool) → is_some o.channel.download ≡ b → Serves o m b g.retired
   unfolding response refusal_of answer
   serves b e =
       let fits : eqb m o.m ≡ true = eq-eqb m o.m (sym d) in
@@ -172,10 +179,10 @@ record Going (o : OneChannel) (words : List ℕ) : Type 0 where
   pub kept : Kept
   pub holds : HoldsIn o kept
   pub retired : kept.retired ≡ words
-  pub open_now : o.channel.download.opened ≡ true
+  pub open_now : is_some o.channel.download ≡ true
 
 going_step : (o : OneChannel) (k : ChannelCall) (words : List ℕ) → ChannelInRange o.m o.channel
-    → ends_group (entry o k) ≡ false → resets (entry o k) ≡ false → (opens_download (entry o k) || o.channel.download.opened) ≡ true
+    → ends_group (entry o k) ≡ false → resets (entry o k) ≡ false → (opens_download (entry o k) || is_some o.channel.download) ≡ true
     → (g : Kept) → HoldsIn o g → g.retired ≡ words → Going (transition o k) words
 going_step o k words r ends again opens g h same =
     record {
@@ -214,7 +221,7 @@ download_stays n m setpoints readbacks long before later none =
     let l = words_long start before ∙ long in
     let p = opening_plain o in
     let first : Going next g.retired =
-    going_step o call.open_download g.retired r p.0 p.1 (ap (λ (b : Bool). b || o.channel.download.opened) p.2) g h refl in
+    going_step o call.open_download g.retired r p.0 p.1 (ap (λ (b : Bool). b || is_some o.channel.download) p.2) g h refl in
     let last = going_from next later g.retired (channel_step o call.open_download r) first none in
     record {
       words = g.retired;

@@ -4,6 +4,8 @@ use Prim.Native.Nat.{ℕ}
 use mathlib.Core.Path.{◌≡◌, ap}
 use mathlib.Core.Bool.{Bool, true, false, ◌&&◌}
 use lib.Dec.{eqb}
+use Rattle.std.specs.declared.option.Option.{Option}
+use Rattle.std.specs.Option.{is_some}
 use Rattle.status.specs.Bits.{bit_at}
 use Rattle.registers.specs.Map.{triggers_of, group_end_event}
 use Rattle.sequencer.specs.declared.LastSend.{LastSend}
@@ -24,13 +26,13 @@ use Rattle.histories.proofs.Refusing.{by_refusal}
 
 pub record Ended (c d : Channel) : Type 0 where
   pub leaves : Leaves (group_ended c) d
-  pub unsent : d.sequencer.last.sent ≡ false
+  pub unsent : is_some d.sequencer.last ≡ false
   pub apart : ApartIn d
 
 -- Start, Resume and Tag after it leave what it left
 ended_by : (c d : Channel) (on : Bool) → on ≡ true → Leaves (ended_if on c) d → d.sequencer.last ≡ (ended_if on c).sequencer.last → ApartIn d → Ended c d
 unfolding ended_if group_ended seq.group_ended seq.idled
-ended_by c d true e l s a = record { leaves = l; unsent = ap (λ (x : LastSend). x.sent) s; apart = a }
+ended_by c d true e l s a = record { leaves = l; unsent = ap (λ (x : Option LastSend). is_some x) s; apart = a }
 ended_by c d false e l s a = clash e
 
 ended_event : (c : Channel) (user code : ℕ) → triggers_of c.registers group_end_event code ≡ true → Ended c (event_of c user code)

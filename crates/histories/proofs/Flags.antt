@@ -8,6 +8,7 @@ use native.Mathlib.Omega.{arith}
 use lib.ListN.{get_or}
 use lib.Seq.{get_or-set_same, get_or-set_other}
 use lib.Dec.{eqb, leb}
+use Rattle.std.specs.declared.option.Option.{Option}
 use Rattle.frame.specs.Frames.{Reading, read, crc_right}
 use Rattle.frame.specs.Frames as frame
 use Rattle.status.specs.Bits.{bit_at}
@@ -17,8 +18,8 @@ use Rattle.status.specs.Latching.{latched, missing_readback}
 use Rattle.registers.specs.Map.{stored}
 use Rattle.sequencer.specs.declared.LastSend.{LastSend}
 use Rattle.sequencer.specs.declared.Sequencer.{Sequencer}
-use Rattle.sequencer.specs.declared.Transmission.{Transmission}
-use Rattle.sequencer.specs.declared.Transmission.TheVariants as transmission
+use Rattle.sequencer.specs.Transmissions.{Transmission}
+use Rattle.sequencer.specs.Transmissions as transmission
 use Rattle.sequencer.specs.Playing.{is_idle, unfinished, shortfall}
 use Rattle.readback.specs.declared.Disposition.{Disposition}
 use Rattle.readback.specs.declared.Disposition.TheVariants as disposition
@@ -61,7 +62,7 @@ abbrev pub flag_in : (polling : Bool) → Status → Bool
 flag_in polling s = get_or (copy_of polling s).bits missing_readback false
 
 -- the last send is short of replies
-abbrev pub short : LastSend → Bool
+abbrev pub short : Option LastSend → Bool
 short l = not (eqb (shortfall_of (send_window l)) 0)
 
 module _ (polling : Bool) where
@@ -213,7 +214,7 @@ module _ (polling : Bool) where
       rest false d e = left false d e ∙ sym (rw (d, or-false (flag_in false c.status)))
 
   -- a setpoint send sets it where the send before is short
-  send_steps : (s : Status) (l : LastSend) (x : Transmission) → StatusInRange s → Latching x
+  send_steps : (s : Status) (l : Option LastSend) (x : Transmission) → StatusInRange s → Latching x
       → flag_in polling (send_status s l x) ≡ (flag_in polling s || (is_setpoint x && short l))
   unfolding shortfall latched
   send_steps s l transmission.Nothing r k = sym (or-false (flag_in polling s))

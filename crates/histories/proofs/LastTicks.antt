@@ -12,9 +12,9 @@ use Rattle.registers.specs.Map.{triggers_of, group_end_event, period_of}
 use Rattle.sequencer.specs.declared.Stage.{Stage}
 use Rattle.sequencer.specs.declared.Stage.TheVariants as stage
 use Rattle.sequencer.specs.declared.Sequencer.{Sequencer}
-use Rattle.sequencer.specs.declared.Transmission.{Transmission}
-use Rattle.sequencer.specs.declared.Transmission.TheVariants as transmission
-use Rattle.sequencer.specs.declared.Ticked.{Ticked}
+use Rattle.sequencer.specs.Transmissions.{Transmission}
+use Rattle.sequencer.specs.Transmissions as transmission
+use Rattle.sequencer.specs.Transmissions.{Ticked}
 use Rattle.sequencer.specs.Playing.{ticked, ticked_at, advancing, repeating, resuming, sent_next, sent_as, repeated, quiet, with_left, with_resume, is_idle, is_starting}
 use Rattle.tick_outcome.specs.declared.TickOutcome.{TickOutcome}
 use Rattle.tick_outcome.specs.declared.TickOutcome.TheVariants as tick

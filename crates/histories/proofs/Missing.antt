@@ -7,14 +7,15 @@ use mathlib.Core.List.{List, [], ◌∷◌, ◌++◌}
 use native.Mathlib.Omega.{arith}
 use lib.Dec.{eqb}
 use borrow.Author.Tests.{eqb-true}
+use Rattle.std.specs.declared.option.Option.{Option}
 use Rattle.status.specs.Bits.{bit_at, word_of_bits}
 use Rattle.status.specs.declared.Status.{Status}
 use Rattle.status.specs.Latching.{latched_in, latched, missing_readback}
 use Rattle.status.proofs.Laws.{word_bit}
 use Rattle.register_map.specs.AccessRule.{channel_access, main_access}
 use Rattle.sequencer.specs.declared.LastSend.{LastSend}
-use Rattle.sequencer.specs.declared.Transmission.{Transmission}
-use Rattle.sequencer.specs.declared.Transmission.TheVariants as transmission
+use Rattle.sequencer.specs.Transmissions.{Transmission}
+use Rattle.sequencer.specs.Transmissions as transmission
 use Rattle.sequencer.specs.Playing.{shortfall}
 use Rattle.command_frames.specs.declared.CommandFrames.{CommandFrames}
 use Rattle.command_frames.specs.Commanding.{is_due}
@@ -79,7 +80,7 @@ module _ (offset : ℕ) where
 
 -- ---- The count
 
-shortfall_is : (l : LastSend) → shortfall l ≡ shortfall_of (send_window l)
+shortfall_is : (l : Option LastSend) → shortfall l ≡ shortfall_of (send_window l)
 unfolding shortfall
 shortfall_is l = refl
 
@@ -175,7 +176,7 @@ latches_shortfalls n m setpoints readbacks ks = (flag_read false n m setpoints r
 -- ---- A tick
 
 -- what a send latches, by whether the send before is short
-send_latches : (s : Status) (l : LastSend) (x : Transmission)
+send_latches : (s : Status) (l : Option LastSend) (x : Transmission)
     → send_status s l x ≡ condition_status (cond (is_setpoint x && not (eqb (shortfall_of (send_window l)) 0)) (latched s missing_readback) s) (condition_in x)
 unfolding shortfall
 send_latches s l transmission.Nothing = refl

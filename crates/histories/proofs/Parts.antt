@@ -16,14 +16,15 @@ use Rattle.status.specs.Latching.{latched, group_end, early_end, run, missing_re
 use Rattle.registers.specs.declared.Registers.{Registers}
 use Rattle.registers.specs.Map.{period_of, stored, flips}
 use Rattle.registers.specs.Map as reg
+use Rattle.std.specs.declared.option.Option.{Option}
 use Rattle.adc_words.specs.declared.AdcWord.{AdcWord}
 use Rattle.adc_words.specs.declared.AdcWords.{AdcWords}
 use Rattle.adc_words.specs.Positions.{adc_word, with_reply}
 use Rattle.sequencer.specs.declared.LastSend.{LastSend}
 use Rattle.sequencer.specs.declared.Sequencer.{Sequencer}
-use Rattle.sequencer.specs.declared.Transmission.{Transmission}
-use Rattle.sequencer.specs.declared.Transmission.TheVariants as transmission
-use Rattle.sequencer.specs.Playing.{is_idle, unfinished, shortfall}
+use Rattle.sequencer.specs.Transmissions.{Transmission}
+use Rattle.sequencer.specs.Transmissions as transmission
+use Rattle.sequencer.specs.Playing.{is_idle, unfinished, shortfall, send_of}
 use Rattle.readback.specs.declared.Readbacks.{Readbacks}
 use Rattle.readback.specs.declared.Disposition.{Disposition}
 use Rattle.readback.specs.declared.Disposition.TheVariants as disposition
@@ -81,7 +82,7 @@ condition_range : (s : Status) (k : ℕ) → (k ≡ 0) ⊎ ((7 ≤ k) × (k ≤ 
 condition_range s k (inl e) h = rw e h
 condition_range s k (inr l) h = either StatusInRange (eqb k 0) h (latched_range s k (high_condition k l.0 l.1) h)
 
-send_range : (s : Status) (last : LastSend) (x : Transmission) → Latching x → StatusInRange s → StatusInRange (send_status s last x)
+send_range : (s : Status) (last : Option LastSend) (x : Transmission) → Latching x → StatusInRange s → StatusInRange (send_status s last x)
 send_range s last transmission.Nothing l h = h
 send_range s last (transmission.Word word k) l h =
     condition_range _ k l (either StatusInRange (eqb (shortfall last) 0) h (latched_range s missing_readback refl h))
@@ -177,11 +178,11 @@ data_read f = go (framed f)
     go false = tt
 
 -- one of two words
-pub selected_range : (first : Bool) (a b : AdcWord) → AdcInRange a → AdcInRange b → AdcInRange (cond first a b)
+pub selected_range : (first : Bool) (a b : Option AdcWord) → AdcInRange a → AdcInRange b → AdcInRange (cond first a b)
 selected_range true a b i j = i
 selected_range false a b i j = j
 
-replied_range : (w : AdcWords) (before : ℕ) (a : AdcWord) → AdcWordsInRange w → AdcInRange a → AdcWordsInRange (with_reply w before a)
+replied_range : (w : AdcWords) (before : ℕ) (a : Option AdcWord) → AdcWordsInRange w → AdcInRange a → AdcWordsInRange (with_reply w before a)
 unfolding with_reply
 replied_range w before a h i =
     record {
@@ -216,8 +217,8 @@ module _ (m : ℕ) where
         status = record { enable = refl; interrupt = none_range; polling = none_range };
         registers = record { clock = omega arith; active = refl; id = omega arith; events = refl; switches = refl; delays = refl };
         readbacks = record { stored = omega arith; retired = omega arith };
-        adc = record { third = omega arith; fourth = omega arith; fifth = omega arith; sixth = omega arith };
-        download = refl;
+        adc = record { third = tt; fourth = tt; fifth = tt; sixth = tt };
+        download = tt;
         commands = record { count = omega arith; replies = refl };
       }
 
@@ -229,7 +230,7 @@ module _ (m : ℕ) where
         registers = opened_range.registers;
         readbacks = opened_range.readbacks;
         adc = opened_range.adc;
-        download = refl;
+        download = tt;
         commands = opened_range.commands;
       }
 
@@ -250,7 +251,7 @@ module _ (m : ℕ) where
         registers = group_registers c.registers c.sequencer.count h.registers;
         readbacks = record { stored = omega arith; retired = h.readbacks.stored };
         adc = h.adc;
-        download = refl;
+        download = tt;
         commands = group_commands c.commands h.commands;
       }
 
@@ -322,7 +323,7 @@ module _ (m : ℕ) where
         status = crc_range c.status right h.status;
         registers = h.registers;
         readbacks = h.readbacks;
-        adc = replied_range c.adc c.sequencer.last.replies (adc_word false right word) h.adc fits;
+        adc = replied_range c.adc (send_of c.sequencer.last).replies (adc_word false right word) h.adc tt;
         download = h.download;
         commands = h.commands;
       }
@@ -331,7 +332,7 @@ module _ (m : ℕ) where
         status = crc_range c.status right h.status;
         registers = h.registers;
         readbacks = kept_range c.readbacks h.readbacks;
-        adc = replied_range c.adc c.sequencer.last.replies (adc_word true right word) h.adc fits;
+        adc = replied_range c.adc (send_of c.sequencer.last).replies (adc_word true right word) h.adc fits;
         download = h.download;
         commands = h.commands;
       }

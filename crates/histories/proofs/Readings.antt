@@ -7,23 +7,27 @@ use mathlib.Core.List.{List, [], ◌∷◌, ◌++◌}
 use native.Mathlib.Omega.{arith}
 use lib.Dec.{eqb, leb, ltb}
 use lib.ListN.{length, get_or, length-append}
+use Rattle.std.specs.Option.{is_some}
 use Rattle.frame.specs.Frames.{Reading, read, crc_right}
 use Rattle.frame.specs.Frames as frame
 use Rattle.status.specs.Bits.{bit_at}
 use Rattle.codes.specs.Voltage.{voltage_of}
 use Rattle.codes.proofs.Exact.{voltage_exact}
 use Rattle.registers.specs.Map.{triggers_of, group_end_event}
+use Rattle.std.specs.declared.option.Option.{Option}
+use Rattle.std.specs.declared.option.Option.TheVariants.{Some, None}
 use Rattle.adc_words.specs.declared.AdcWord.{AdcWord}
 use Rattle.adc_words.specs.declared.AdcWords.{AdcWords}
 use Rattle.adc_words.specs.Positions.{adc_word, no_reply, none_arrived, with_reply, arrived, words_of}
 use Rattle.adc_words.proofs.Laws.{one_more, arrived_more, arrived_none}
+use Rattle.sequencer.specs.Playing.{send_of}
 use Rattle.readback.specs.declared.Disposition.{Disposition}
 use Rattle.readback.specs.declared.Disposition.TheVariants as disposition
 use Rattle.command_frames.specs.Commanding.{takes}
 use Rattle.channel_core.specs.declared.Channel.{Channel}
 use Rattle.channel_core.specs.Answers.{Answer, is_received}
 use Rattle.channel_core.specs.Answers as ans
-use Rattle.channel_core.specs.Results.{volts, lost, damaged}
+use Rattle.channel_core.specs.Results.{volts, damaged}
 use Rattle.channel_core.specs.State.{reset}
 use Rattle.channel_core.specs.State as state
 use Rattle.channel_core.specs.Behaviour.{group_ended, ended_if, user_changed, played_of, tick_of, tick_answer}
@@ -38,7 +42,7 @@ use Rattle.channel.proofs.Cases.{clash, either}
 use Rattle.histories.specs.History.{is_kept, adc_in, no_adc, Entry, entry, Told, told, asks, ends_group, resets, sent_id, sends_setpoint, receives}
 use Rattle.histories.specs.Windows.{Window, closed, idles}
 use Rattle.histories.specs.Ranges.{AdcInRange, AdcWordsInRange, ChannelInRange}
-use Rattle.histories.specs.Readings.{becomes, replies_after, replies_since, replies_over, readings_by, Says, ReadingsTold, ReadingsSay, NoneLost}
+use Rattle.histories.specs.Readings.{becomes, replies_after, replies_since, replies_over, readings_by, SaysStored, Says, ReadingsTold, ReadingsSay, NoneLost}
 use Rattle.histories.proofs.Accepted.{query_plain}
 use Rattle.histories.proofs.Buffered.{told_at}
 use Rattle.histories.proofs.Calls.{steps, main_plain}
@@ -54,13 +58,13 @@ use Rattle.histories.proofs.Windows.{window_held}
 
 -- ---- One call: it idles, sends, has one more reply `a` received, or none of these
 
-module _ (w : Window) (id : ℕ) (l : List AdcWord) (a : AdcWord) where
+module _ (w : Window) (id : ℕ) (l : List (Option AdcWord)) (a : Option AdcWord) where
   abbrev window : (idle sends more : Bool) → Window
   window idle sends more =
       cond idle closed
       (cond sends (record { sent = true; id = id; replies = 0 }) (cond more (record { sent = w.sent; id = w.id; replies = w.replies + 1 }) w))
 
-  abbrev replies : (idle sends more : Bool) → List AdcWord
+  abbrev replies : (idle sends more : Bool) → List (Option AdcWord)
   replies idle sends more = cond idle [] (cond sends [] (cond more (l ++ (a ∷ [])) l))
 
   count_after_lem : (idle sends more : Bool) → w.replies ≡ length l → (window idle sends more).replies ≡ length (replies idle sends more)
@@ -89,13 +93,13 @@ module _ (w : Window) (id : ℕ) (l : List AdcWord) (a : AdcWord) where
 -- ---- What each call makes of the ADC words
 
 -- a channel with them, after a call with this answer, a reset or not; `reply` is what it brings, stored or not
-abbrev AdcStep : Channel → Answer → (again : Bool) → (reply : Bool → AdcWord) → Channel → Type 0
+abbrev AdcStep : Channel → Answer → (again : Bool) → (reply : Bool → Option AdcWord) → Channel → Type 0
 AdcStep c a again reply d =
     d.adc
     ≡ cond again none_arrived
-    (cond (is_received a && not (takes c.commands)) (with_reply c.adc c.sequencer.last.replies (reply (is_kept a))) c.adc)
+    (cond (is_received a && not (takes c.commands)) (with_reply c.adc (send_of c.sequencer.last).replies (reply (is_kept a))) c.adc)
 
-plain_adc : (c : Channel) (a : Answer) (reply : Bool → AdcWord) (d : Channel) → is_received a ≡ false → d.adc ≡ c.adc → AdcStep c a false reply d
+plain_adc : (c : Channel) (a : Answer) (reply : Bool → Option AdcWord) (d : Channel) → is_received a ≡ false → d.adc ≡ c.adc → AdcStep c a false reply d
 plain_adc c a reply d plain e = e ∙ sym (rw plain)
 
 ended_adc : (on : Bool) (c : Channel) → (ended_if on c).adc ≡ c.adc
@@ -122,7 +126,7 @@ reply_adc c m f = go (read f)
     disposed : (d : Disposition) (right : Bool) (word : ℕ)
         → (received_channel d c m right word).adc
         ≡ cond (is_received (receipt_answer d) && true)
-        (with_reply c.adc c.sequencer.last.replies (adc_word (is_kept (receipt_answer d)) right word)) c.adc
+        (with_reply c.adc (send_of c.sequencer.last).replies (adc_word (is_kept (receipt_answer d)) right word)) c.adc
     disposed disposition.Unsolicited right word = refl
     disposed disposition.Lost right word = refl
     disposed disposition.Kept right word = refl
@@ -166,10 +170,10 @@ adc_step o k =
 -- ---- Along a list
 
 -- a channel holds these replies; none, where there is no send
-pub record Holds (o : OneChannel) (l : List AdcWord) : Type 0 where
-  pub count : o.channel.sequencer.last.replies ≡ length l
-  pub words : arrived o.channel.adc o.channel.sequencer.last.replies ≡ words_of l
-  pub none : o.channel.sequencer.last.sent ≡ false → l ≡ []
+pub record Holds (o : OneChannel) (l : List (Option AdcWord)) : Type 0 where
+  pub count : (send_of o.channel.sequencer.last).replies ≡ length l
+  pub words : arrived o.channel.adc (send_of o.channel.sequencer.last).replies ≡ words_of l
+  pub none : is_some o.channel.sequencer.last ≡ false → l ≡ []
 
 -- a reset idles
 reset_idles : (e : Entry) → resets e ≡ true → idles e ≡ true
@@ -179,7 +183,7 @@ reset_idles e r = rw r (go (ends_group e))
     go true = refl
     go false = refl
 
-holds_step : (o : OneChannel) (k : ChannelCall) (l : List AdcWord) → Ordered o.channel → ChannelInRange o.m o.channel → Holds o l
+holds_step : (o : OneChannel) (k : ChannelCall) (l : List (Option AdcWord)) → Ordered o.channel → ChannelInRange o.m o.channel → Holds o l
     → Holds (transition o k) (replies_after l (told_at o k))
 holds_step o k l g r h =
     let t = told_at o k in
@@ -199,7 +203,7 @@ holds_step o k l g r h =
           (sym (ap (λ (x : Window). x.sent) after) ∙ e);
     }
 
-holds_from : (o : OneChannel) (ks : List ChannelCall) (l : List AdcWord) → Ordered o.channel → ChannelInRange o.m o.channel → Holds o l
+holds_from : (o : OneChannel) (ks : List ChannelCall) (l : List (Option AdcWord)) → Ordered o.channel → ChannelInRange o.m o.channel → Holds o l
     → Holds (transitions o ks) (replies_since l (told_from o ks))
 unfolding replies_since told
 holds_from o [] l g r h = h
@@ -219,16 +223,16 @@ pub readings_told : ReadingsTold
 unfolding response refusal_of answer readings_answer
 readings_told n m setpoints readbacks ks one two = rw (holds n m setpoints readbacks ks).words
 
-measured_says : (a : AdcWord) → AdcInRange a → Says a.stored a.right a.«data» (measured a)
+measured_says : (a : Option AdcWord) → AdcInRange a → Says a (measured a)
 unfolding measured
-measured_says a i = go a.stored a.right
+measured_says None i = refl
+measured_says (Some a) i = go a.right
   where
-    go : (stored right : Bool) → Says stored right a.«data» (cond stored (cond right (volts (voltage_of a.«data»)) damaged) lost)
-    go true true = (voltage_of a.«data», refl, voltage_exact a.«data» i)
-    go true false = refl
-    go false right = refl
+    go : (right : Bool) → SaysStored right a.«data» (cond right (volts (voltage_of a.«data»)) damaged)
+    go true = (voltage_of a.«data», refl, voltage_exact a.«data» i)
+    go false = refl
 
-in_place : (l : List AdcWord) → AdcWordsInRange (words_of l) → (k : ℕ) → 2 ≤ k → k ≤ 5 → AdcInRange (get_or l k no_reply)
+in_place : (l : List (Option AdcWord)) → AdcWordsInRange (words_of l) → (k : ℕ) → 2 ≤ k → k ≤ 5 → AdcInRange (get_or l k no_reply)
 in_place l h zero low high = absurd (omega arith)
 in_place l h (suc zero) low high = absurd (omega arith)
 in_place l h (suc (suc zero)) low high = h.third
@@ -244,7 +248,7 @@ in_range n m setpoints readbacks ks = (channel_from (one_channel n m setpoints r
 arrived_range : (w : AdcWords) (k : ℕ) → AdcWordsInRange w → AdcWordsInRange (arrived w k)
 unfolding arrived
 arrived_range w k h =
-    let none : AdcInRange no_reply = omega arith in
+    let none : AdcInRange no_reply = tt in
     record {
       third = selected_range (ltb 2 k) w.third no_reply h.third none;
       fourth = selected_range (ltb 3 k) w.fourth no_reply h.fourth none;

@@ -4,9 +4,10 @@ use mathlib.Core.Path.{◌≡◌, refl, sym, ◌∙◌, ap, subst}
 use mathlib.Core.Bool.{Bool, true, false, cond, not, ◌&&◌, ◌||◌}
 use lib.ListN.{length}
 use lib.Dec.{eqb, ltb}
+use Rattle.std.specs.declared.option.Option.{Option}
 use Rattle.frame.specs.Frames.{read, fields, crc_right}
 use Rattle.sequencer.specs.declared.LastSend.{LastSend}
-use Rattle.sequencer.specs.Playing.{is_idle}
+use Rattle.sequencer.specs.Playing.{is_idle, send_of}
 use Rattle.readback.specs.declared.Disposition.TheVariants as disposition
 use Rattle.readback.specs.Storing.{is_due, disposition_of, capacity, stored_word}
 use Rattle.command_frames.specs.declared.CommandFrames.{CommandFrames}
@@ -47,7 +48,7 @@ module _
       where
         go : (idle : Bool) → is_idle o.channel.sequencer.stage ≡ idle
             → is_due idle o.channel.sequencer.last ≡ due_by_window (window_of o.channel.sequencer)
-        go true e = sym (ap (λ (l : LastSend). due_by_window (send_window l)) (quiet e))
+        go true e = sym (ap (λ (l : Option LastSend). due_by_window (send_window l)) (quiet e))
         go false e = refl
 
     space : ltb o.channel.readbacks.stored (capacity o.m) ≡ has_space o.m g
@@ -93,7 +94,7 @@ module _
 
     words : (transition o call).readbacks
         ≡ cond (stores_reply f w o.m g)
-        (stored_after o g (stored_word o.channel.sequencer.last o.user (not (crc_right id word aux crc)) id word))
+        (stored_after o g (stored_word (send_of o.channel.sequencer.last) o.user (not (crc_right id word aux crc)) id word))
         o.readbacks
     unfolding effect reply_words call
     words =
@@ -101,7 +102,7 @@ module _
         ∙ rw (framed, taken, disposed) (go (takes f) (due_by_window w) (has_space o.m g) refl)
       where
         x : ℕ
-        x = stored_word o.channel.sequencer.last o.user (not (crc_right id word aux crc)) id word
+        x = stored_word (send_of o.channel.sequencer.last) o.user (not (crc_right id word aux crc)) id word
 
         go : (theirs due space : Bool) → has_space o.m g ≡ space
             → cond theirs o.readbacks

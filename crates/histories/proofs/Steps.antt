@@ -5,15 +5,18 @@ use mathlib.Core.Bool.{Bool, true, false, cond, not, ◌||◌, ◌&&◌, or-not_
 use native.Mathlib.Omega.{arith}
 use lib.Dec.{ltb}
 use borrow.Author.Tests.{ltb-true}
+use Rattle.std.specs.declared.option.Option.{Option}
+use Rattle.std.specs.declared.option.Option.TheVariants.{Some, None}
+use Rattle.std.specs.Option.{is_some}
 use Rattle.frame.specs.Frames.{Reading, read, crc_right}
 use Rattle.frame.specs.Frames as frame
 use Rattle.frame.proofs.Frames.{round_trip}
 use Rattle.sequencer.specs.declared.LastSend.{LastSend}
 use Rattle.sequencer.specs.declared.Stage.TheVariants as stage
 use Rattle.sequencer.specs.declared.Sequencer.{Sequencer}
-use Rattle.sequencer.specs.declared.Transmission.{Transmission}
-use Rattle.sequencer.specs.declared.Transmission.TheVariants as transmission
-use Rattle.sequencer.specs.Playing.{is_idle, nothing_sent, counted, shortfall, missing_with, with_missing, answered, ticked}
+use Rattle.sequencer.specs.Transmissions.{Transmission}
+use Rattle.sequencer.specs.Transmissions as transmission
+use Rattle.sequencer.specs.Playing.{is_idle, nothing_sent, counted, shortfall, missing_with, with_missing, with_next_reply, answered, ticked, send_of}
 use Rattle.sequencer.specs.Playing as seq
 use Rattle.sequencer.specs.Runs.{count_after, missing_after}
 use Rattle.sequencer.proofs.Moves.{moved}
@@ -49,8 +52,8 @@ pub record Steps (n id : ℕ) (s : Sequencer) (a : Answer) (due takes ends again
   pub missing_step : t.missing ≡ cond (again || reads) 0 (cond (is_frame a && not due) (missing_with s.missing (shortfall s.last)) s.missing)
   pub quiet_step : Quiet s → Quiet t
   pub window_step : id < 256 → window_of t ≡ cond (ends || (again || stops)) closed (observed a due takes (window_of s))
-  pub replies_step : s.last.replies ≤ 6 → t.last.replies ≤ 6
-  pub received_step : (is_received a && not takes) ≡ true → s.last.sent ≡ true
+  pub replies_step : (send_of s.last).replies ≤ 6 → (send_of t.last).replies ≤ 6
+  pub received_step : (is_received a && not takes) ≡ true → is_some s.last ≡ true
   pub index_step : 1 ≤ n → s.index < n → t.index < n
   pub countdown_step : Countdown s → Countdown t
 
@@ -76,7 +79,7 @@ module _ {id : ℕ} {due takes : Bool} where
             k.missing_kept ∙ sym (ap (λ (b : Bool). cond (b && not due) (missing_with c.sequencer.missing (shortfall c.sequencer.last)) c.sequencer.missing) h.0);
         quiet_step = λ q e. k.last_kept;
         window_step = λ fits. ap send_window k.last_kept;
-        replies_step = λ e. omega (arith, ap (λ (l : LastSend). l.replies) k.last_kept);
+        replies_step = λ e. omega (arith, ap (λ (l : Option LastSend). (send_of l).replies) k.last_kept);
         received_step = λ e. clash (sym (unreceived a takes h) ∙ e);
         index_step = λ e i. k.index_kept n e e;
         countdown_step = λ p. k.countdown_kept tt;
@@ -88,7 +91,7 @@ module _ {id : ℕ} {due takes : Bool} where
             k.missing_kept ∙ sym (ap (λ (b : Bool). cond (b && not due) (missing_with c.sequencer.missing (shortfall c.sequencer.last)) c.sequencer.missing) h.0);
         quiet_step = λ q e. k.last_kept ∙ q (k.idle_kept e);
         window_step = λ fits. ap send_window k.last_kept ∙ sym (observed_plain a due takes (window_of c.sequencer) h);
-        replies_step = λ e. omega (arith, ap (λ (l : LastSend). l.replies) k.last_kept);
+        replies_step = λ e. omega (arith, ap (λ (l : Option LastSend). (send_of l).replies) k.last_kept);
         received_step = λ e. clash (sym (unreceived a takes h) ∙ e);
         index_step = k.index_kept n;
         countdown_step = k.countdown_kept;
@@ -171,7 +174,7 @@ count_sent : (x : Transmission) (c : ℕ) → count_after x c ≡ cond (is_setpo
 count_sent transmission.Nothing c = refl
 count_sent (transmission.Word word k) c = refl
 
-missing_sent : (x : Transmission) (l : LastSend) (k : ℕ) → missing_after x l k ≡ cond (is_setpoint x) (missing_with k (shortfall l)) k
+missing_sent : (x : Transmission) (l : Option LastSend) (k : ℕ) → missing_after x l k ≡ cond (is_setpoint x) (missing_with k (shortfall l)) k
 missing_sent transmission.Nothing l k = refl
 missing_sent (transmission.Word word c) l k = refl
 
@@ -209,25 +212,31 @@ tick_steps n s f takes id due p some apart =
 -- ---- A reply
 
 -- a reply that is due finds the channel not idle, fewer than six before it, and a send since idle
-pub due_facts : (idle : Bool) (l : LastSend) → rb.is_due idle l ≡ true → (idle ≡ false) × (ltb l.replies 6 ≡ true) × (l.sent ≡ true)
+pub due_facts : (idle : Bool) (l : Option LastSend) → rb.is_due idle l ≡ true → (idle ≡ false) × (ltb (send_of l).replies 6 ≡ true) × (is_some l ≡ true)
 due_facts true l e = clash e
-due_facts false l e = let f = go l.sent e in (refl, f.0, f.1)
+due_facts false l e = let f = go (is_some l) e in (refl, f.0, f.1)
   where
-    go : (b : Bool) → (b && ltb l.replies 6) ≡ true → (ltb l.replies 6 ≡ true) × (b ≡ true)
+    go : (b : Bool) → (b && ltb (send_of l).replies 6) ≡ true → (ltb (send_of l).replies 6 ≡ true) × (b ≡ true)
     go true f = (f, refl)
     go false f = clash f
+
+replied : (l : Option LastSend) → is_some l ≡ true → ltb (send_of l).replies 6 ≡ true
+    → send_window (with_next_reply l) ≡ record { sent = is_some l; id = (send_of l).id; replies = (send_of l).replies + 1 }
+replied None e few = clash e
+replied (Some x) e few = rw few
 
 answered_steps : {id : ℕ} (n : ℕ) (s : Sequencer) (a : Answer) (due takes : Bool) → is_frame a ≡ false → is_received a ≡ true → takes ≡ false
     → rb.is_due (is_idle s.stage) s.last ≡ true → Steps n id s a due takes false false false false (answered s)
 unfolding answered
 answered_steps n s a due takes plain received ours e =
     let d = due_facts (is_idle s.stage) s.last e in
+    let after = replied s.last d.2 d.1 in
     record {
       count_step = sym (ap (λ (b : Bool). cond (b && not due) (counted s.count) s.count) plain);
       missing_step = sym (ap (λ (b : Bool). cond (b && not due) (missing_with s.missing (shortfall s.last)) s.missing) plain);
       quiet_step = λ q f. clash (sym d.0 ∙ f);
-      window_step = λ fits. rw (plain, received, ours, d.1);
-      replies_step = λ f. rw d.1 (omega (arith, ltb-true s.last.replies 6 d.1));
+      window_step = λ fits. rw (plain, received, ours) after;
+      replies_step = λ f. omega (arith, ap (λ (w : Window). w.replies) after, ltb-true (send_of s.last).replies 6 d.1);
       received_step = λ f. d.2;
       index_step = λ f i. i;
       countdown_step = λ p. p;

@@ -7,15 +7,16 @@ use native.Mathlib.Omega.{arith}
 use lib.Dec.{eqb, leb, ltb}
 use lib.ListN.{get_or, set}
 use borrow.Author.Tests.{leb-true, le-ltb}
+use Rattle.std.specs.Option.{is_some}
 use Rattle.frame.specs.Frames.{Reading, read, crc_right}
 use Rattle.frame.specs.Frames as frame
 use Rattle.status.specs.Bits.{bit_at}
 use Rattle.registers.specs.Map.{period_of, matches, start_event, tag_event, group_end_event, triggers_of, delay_of, stored}
 use Rattle.registers.specs.Map as reg
 use Rattle.sequencer.specs.declared.Sequencer.{Sequencer}
-use Rattle.sequencer.specs.declared.Transmission.{Transmission}
-use Rattle.sequencer.specs.declared.Transmission.TheVariants as transmission
-use Rattle.sequencer.specs.Playing.{is_idle, with_tag}
+use Rattle.sequencer.specs.Transmissions.{Transmission}
+use Rattle.sequencer.specs.Transmissions as transmission
+use Rattle.sequencer.specs.Playing.{is_idle, with_tag, send_of}
 use Rattle.sequencer.specs.Playing as seq
 use Rattle.sequencer.specs.Runs.{tag_after, tagged_after}
 use Rattle.sequencer.proofs.Moves.{moved, resumed_either}
@@ -46,7 +47,7 @@ use Rattle.histories.proofs.Calls.{main_plain}
 use Rattle.histories.proofs.Cases.{by_offset}
 use Rattle.histories.proofs.EventRegisters.{stored_events}
 use Rattle.histories.proofs.Steps.{line_sends}
-use Rattle.histories.proofs.Ticks.{window_of, window_sent, plays_ticked}
+use Rattle.histories.proofs.Ticks.{window_of, window_sent, reply_leaves, plays_ticked}
 
 -- what of a channel concerns tags
 pub record View : Type 0 where
@@ -62,8 +63,8 @@ view c =
       armed = c.sequencer.armed;
       events = c.registers.events;
       tag = c.sequencer.tag;
-      sent = c.sequencer.last.sent;
-      tagged = c.sequencer.last.tagged;
+      sent = is_some c.sequencer.last;
+      tagged = (send_of c.sequencer.last).tagged;
     }
 
 -- it is as told, the mark of the last send where there is one since idle; and a tag waits on an armed channel only
@@ -202,8 +203,8 @@ same_reply c m f = go (read f)
   where
     disposed : (d : Disposition) (right : Bool) (word : ℕ) → Same c (received_channel d c m right word)
     disposed disposition.Unsolicited right word = refl
-    disposed disposition.Lost right word = refl
-    disposed disposition.Kept right word = refl
+    disposed disposition.Lost right word = let a = reply_leaves c.sequencer.last in rw (a.0, a.1)
+    disposed disposition.Kept right word = let a = reply_leaves c.sequencer.last in rw (a.0, a.1)
 
     go : (g : Reading) → Same c (reply_as g c m)
     go (frame.refused k) = refl
@@ -227,7 +228,7 @@ held_played o g h transmission.Nothing e =
       tagged =
           λ sent.
           a.last_tagged
-          ∙ ap (λ (x : Transmission). tagged_after x s.tag s.last.tagged) e
+          ∙ ap (λ (x : Transmission). tagged_after x s.tag (send_of s.last).tagged) e
           ∙ h.tagged (sym (ap (λ (w : Window). w.sent) (window ∙ ap (λ (x : Transmission). window_sent c.registers.id x (window_of s)) e)) ∙ sent);
       only_armed = λ f. a.armed ∙ h.only_armed (sym (a.tag ∙ ap (λ (x : Transmission). tag_after x s.tag) e) ∙ f);
     }
@@ -239,7 +240,7 @@ held_played o g h (transmission.Word word k) e =
       armed = a.armed ∙ h.armed;
       events = h.events;
       tag = a.tag ∙ ap (λ (x : Transmission). tag_after x s.tag) e;
-      tagged = λ sent. a.last_tagged ∙ ap (λ (x : Transmission). tagged_after x s.tag s.last.tagged) e ∙ h.tag;
+      tagged = λ sent. a.last_tagged ∙ ap (λ (x : Transmission). tagged_after x s.tag (send_of s.last).tagged) e ∙ h.tag;
       only_armed = λ f. clash (sym (a.tag ∙ ap (λ (x : Transmission). tag_after x s.tag) e) ∙ f);
     }
 

@@ -10,6 +10,7 @@ use borrow.Table.Elements.{map_app}
 use Rattle.frame.specs.Frames.{read, framed, id_of, data_of, aux_of, crc_in, crc_right}
 use Rattle.frame.specs.Frames as frame
 use Rattle.status.specs.Bits.{bit_at}
+use Rattle.sequencer.specs.Playing.{send_of}
 use Rattle.readback.proofs.Laws.{stored_tag}
 use Rattle.command_frames.specs.Commanding.{takes}
 use Rattle.channel_core.specs.State as state
@@ -64,15 +65,15 @@ tags_told n m setpoints readbacks ks =
 abbrev Marked : Bool → List ℕ → Type 0
 Marked mark words = marks_in words ≡ map (λ (word : ℕ). mark) words
 
-marked_reply : (o : OneChannel) (f : ℕ) → Marked o.channel.sequencer.last.tagged (reply_word o (read f))
+marked_reply : (o : OneChannel) (f : ℕ) → Marked (send_of o.channel.sequencer.last).tagged (reply_word o (read f))
 unfolding read
 marked_reply o f = go (framed f)
   where
     go : (b : Bool)
-        → Marked o.channel.sequencer.last.tagged (reply_word o (cond b (frame.fields (id_of f) (data_of f) (aux_of f) (crc_in f)) (frame.refused 7)))
+        → Marked (send_of o.channel.sequencer.last).tagged (reply_word o (cond b (frame.fields (id_of f) (data_of f) (aux_of f) (crc_in f)) (frame.refused 7)))
     go true =
         ap (λ (x : Bool). x ∷ [])
-        (stored_tag o.channel.sequencer.last o.user (not (crc_right (id_of f) (data_of f) (aux_of f) (crc_in f))) (id_of f) (data_of f)
+        (stored_tag (send_of o.channel.sequencer.last) o.user (not (crc_right (id_of f) (data_of f) (aux_of f) (crc_in f))) (id_of f) (data_of f)
         (omega arith) (omega arith))
     go false = refl
 

@@ -12,22 +12,31 @@ use Rattle.sequencer.specs.declared.Kind.{Kind}
 use Rattle.sequencer.specs.declared.Kind.TheVariants as kind
 use Rattle.sequencer.specs.declared.Stage.{Stage}
 use Rattle.sequencer.specs.declared.Stage.TheVariants as stage
+use Rattle.std.specs.declared.option.Option.{Option}
+use Rattle.std.specs.declared.option.Option.TheVariants.{Some, None}
+use Rattle.std.specs.Option.{is_some}
 use Rattle.sequencer.specs.declared.LastSend.{LastSend}
 use Rattle.sequencer.specs.declared.Sequencer.{Sequencer}
-use Rattle.sequencer.specs.declared.Transmission.{Transmission}
-use Rattle.sequencer.specs.declared.Transmission.TheVariants as transmission
-use Rattle.sequencer.specs.declared.Ticked.{Ticked}
-use Rattle.sequencer.specs.Playing.{is_idle, quiet, with_left, with_resume, sent_as, sent_next, repeated, advancing, repeating, resuming, ticked_at, ticked}
+use Rattle.sequencer.specs.Transmissions.{Transmission}
+use Rattle.sequencer.specs.Transmissions as transmission
+use Rattle.sequencer.specs.Transmissions.{Ticked}
+use Rattle.sequencer.specs.Playing.{is_idle, send_of, with_next_reply, quiet, with_left, with_resume, sent_as, sent_next, repeated, advancing, repeating, resuming, ticked_at, ticked}
 use Rattle.channel.proofs.Cases.{clash, either, by_test}
 use Rattle.histories.specs.Windows.{Window}
 use Rattle.histories.specs.Ranges.{CountdownInRange, Countdown, Quiet}
 
 -- the last send, if any, and the replies after it, as the sequencer holds them
-abbrev pub send_window : LastSend → Window
-send_window l = record { sent = l.sent; id = l.id; replies = l.replies }
+abbrev pub send_window : Option LastSend → Window
+send_window l = record { sent = is_some l; id = (send_of l).id; replies = (send_of l).replies }
 
 abbrev pub window_of : Sequencer → Window
 window_of s = send_window s.last
+
+-- a reply makes no send of none, and leaves its mark
+pub reply_leaves : (l : Option LastSend)
+    → (is_some (with_next_reply l) ≡ is_some l) × ((send_of (with_next_reply l)).tagged ≡ (send_of l).tagged)
+reply_leaves None = (refl, refl)
+reply_leaves (Some l) = (refl, refl)
 
 abbrev pub window_sent : ℕ → Transmission → Window → Window
 window_sent id transmission.Nothing w = w

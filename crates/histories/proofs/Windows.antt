@@ -3,6 +3,7 @@ use Prim.Native.Nat.{ℕ, ◌≤◌}
 use mathlib.Core.Path.{◌≡◌, refl, sym, ◌∙◌, ap}
 use mathlib.Core.List.{List, [], ◌∷◌}
 use native.Mathlib.Omega.{arith}
+use Rattle.sequencer.specs.Playing.{send_of}
 use Rattle.command_frames.specs.declared.CommandFrames.{CommandFrames}
 use Rattle.channel_core.specs.State as state
 use Rattle.channel.specs.OneChannel.{one_channel, ChannelCall, OneChannel, transition, transitions}
@@ -29,8 +30,8 @@ window_from o (k ∷ ks) w g r h =
     ((steps o k g.apart).window_step r.registers.id ∙ ap (λ (x : Window). window_after x t) h)
     ∙ ap (window_since w) (sym (told_next o k ks g.apart))
 
-few_replies : (o : OneChannel) (ks : List ChannelCall) → Ordered o.channel → o.channel.sequencer.last.replies ≤ 6
-    → (transitions o ks).channel.sequencer.last.replies ≤ 6
+few_replies : (o : OneChannel) (ks : List ChannelCall) → Ordered o.channel → (send_of o.channel.sequencer.last).replies ≤ 6
+    → (send_of (transitions o ks).channel.sequencer.last).replies ≤ 6
 few_replies o [] g h = h
 few_replies o (k ∷ ks) g h = few_replies (transition o k) ks (ordered_step o k g) ((steps o k g.apart).replies_step h)
 

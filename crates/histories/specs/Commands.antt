@@ -4,7 +4,7 @@
 use Rattle.std.specs.Prelude.{ℕ, ◌*◌, ◌≤◌, ◌≡◌, true, false, List}
 use Rattle.register_map.specs.AccessRule.{channel_access}
 use Rattle.register_map.specs.AccessRefusals.{read_refusal}
-use Rattle.sequencer.specs.declared.Transmission.TheVariants as transmission
+use Rattle.sequencer.specs.Transmissions as transmission
 use Rattle.command_frames.specs.declared.CommandFrames.{CommandFrames}
 use Rattle.command_frames.specs.Commanding.{is_due, command_frame, loaded}
 use Rattle.command_frames.specs.Commanding as cmd

@@ -3,7 +3,7 @@
 -- Card 2: the count of missing readbacks. Card 3: a place of each readback buffer is left for its end word. Card 6: 2C is a
 -- seventh event register. Card 7: the data of ADC words, so that each has a code of 16 bits. Card 8: the count that a download
 -- remembers, so that no portion goes past the retired part.
-use Rattle.std.specs.Prelude.{ℕ, ◌-◌, ◌*◌, ◌≤◌, ◌<◌, ◌≡◌, Bool, true, false, cond, List, length, get_or}
+use Rattle.std.specs.Prelude.{ℕ, ◌-◌, ◌*◌, ◌≤◌, ◌<◌, ◌≡◌, Bool, true, false, List, length, get_or, Option, IfSome, IsNone}
 use Rattle.status.specs.Bits.{bit_at}
 use Rattle.status.specs.declared.Status.{Status}
 use Rattle.registers.specs.declared.Registers.{Registers}
@@ -13,7 +13,7 @@ use Rattle.downloads.specs.declared.Download.{Download}
 use Rattle.sequencer.specs.declared.Stage.{Stage}
 use Rattle.sequencer.specs.declared.Stage.TheVariants as stage
 use Rattle.sequencer.specs.declared.Sequencer.{Sequencer}
-use Rattle.sequencer.specs.Playing.{is_idle, nothing_sent}
+use Rattle.sequencer.specs.Playing.{is_idle, nothing_sent, send_of}
 use Rattle.readback.specs.declared.Readbacks.{Readbacks}
 use Rattle.command_frames.specs.declared.CommandFrames.{CommandFrames}
 use Rattle.command_frames.specs.Commanding.{is_due}
@@ -49,7 +49,7 @@ Quiet s = is_idle s.stage ≡ true → s.last ≡ nothing_sent
 pub record SequencerInRange (n : ℕ) (s : Sequencer) : Type 0 where
   pub index_due : s.index < n
   pub countdown : Countdown s
-  pub replies : s.last.replies ≤ 6
+  pub replies : (send_of s.last).replies ≤ 6
   pub missing : s.missing ≤ 255
   pub quiet : Quiet s
 
@@ -77,8 +77,8 @@ pub record ReadbacksInRange (m : ℕ) (r : Readbacks) : Type 0 where
   pub retired : r.retired ≤ m - 1
 
 -- the data of an ADC word has 16 bits
-abbrev pub AdcInRange : AdcWord → Type 0
-AdcInRange a = a.«data» < 65536
+abbrev pub AdcInRange : Option AdcWord → Type 0
+AdcInRange a = IfSome a (λ w. w.«data» < 65536)
 
 pub record AdcWordsInRange (w : AdcWords) : Type 0 where
   pub third : AdcInRange w.third
@@ -86,9 +86,9 @@ pub record AdcWordsInRange (w : AdcWords) : Type 0 where
   pub fifth : AdcInRange w.fifth
   pub sixth : AdcInRange w.sixth
 
--- the count that an open download remembers is that of the retired part, which only a Group End or a reset changes: both end it; with none open it is 0
-abbrev pub DownloadInRange : Download → Readbacks → Type 0
-DownloadInRange d r = d.count ≡ cond d.opened r.retired 0
+-- the count that an open download remembers is that of the retired part, which only a Group End or a reset changes: both end it
+abbrev pub DownloadInRange : Option Download → Readbacks → Type 0
+DownloadInRange o r = IfSome o (λ d. d.count ≡ r.retired)
 
 -- "six pairs", of which FE counts those that came
 pub record CommandsInRange (f : CommandFrames) : Type 0 where
@@ -108,8 +108,8 @@ pub record ChannelInRange (m : ℕ) (c : Channel) : Type 0 where
 -- was sent since idle
 pub record Apart (f : CommandFrames) (s : Sequencer) : Type 0 where
   pub due : is_due f.waiting ≡ true → ApartAt s.stage s.left
-  pub due_unsent : is_due f.waiting ≡ true → s.last.sent ≡ false
-  pub receiving_unsent : f.receiving ≡ true → s.last.sent ≡ false
+  pub due_unsent : is_due f.waiting ≡ true → IsNone s.last
+  pub receiving_unsent : f.receiving ≡ true → IsNone s.last
 
 pub record InRange (o : OneChannel) : Type 0 where
   pub depth : 1 ≤ o.n

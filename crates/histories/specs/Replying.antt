@@ -2,9 +2,10 @@
 -- last such send; else it is "unasked". If the buffer is full it is "lost", and counts among the six." `unsolicited` is "unasked".
 -- All of it is stated over what calls answered: what was sent and replied (`window_since`), how many replies were kept (`kept_since`), and, of document
 -- 02, card 1, what is told of command frames (`commands_since`).
-use Rattle.std.specs.Prelude.{ℕ, ◌+◌, ◌-◌, ◌*◌, ◌≤◌, ◌≡◌, Bool, cond, not, ◌&&◌, ◌||◌, List, length, set, ltb}
+use Rattle.std.specs.Prelude.{ℕ, ◌+◌, ◌-◌, ◌*◌, ◌≤◌, ◌≡◌, Bool, cond, not, ◌&&◌, ◌||◌, List, length, set, ltb, is_some}
 use Rattle.frame.specs.Frames.{read, fields, crc_right}
 use Rattle.registers.specs.Map.{second_active, readback_place}
+use Rattle.sequencer.specs.Playing.{send_of}
 use Rattle.sequencer.specs.declared.Sequencer.{Sequencer}
 use Rattle.readback.specs.Storing.{place_of, stored_word}
 use Rattle.command_frames.specs.declared.CommandFrames.{CommandFrames}
@@ -19,9 +20,9 @@ use Rattle.histories.specs.Keeping.{Kept, kept_over}
 
 -- a channel holds what was sent since idle, with its Frame ID, and the replies to it, which are never more than six
 pub record HoldsWindow (s : Sequencer) (w : Window) : Type 0 where
-  pub sent : s.last.sent ≡ w.sent
-  pub id : s.last.id ≡ w.id
-  pub replies : s.last.replies ≡ w.replies
+  pub sent : is_some s.last ≡ w.sent
+  pub id : (send_of s.last).id ≡ w.id
+  pub replies : (send_of s.last).replies ≡ w.replies
   pub at_most_six : w.replies ≤ 6
 
 -- from an opening, after any list of calls
@@ -57,7 +58,7 @@ pub record Replied (o : OneChannel) (f : CommandFrames) (w : Window) (g : Kept) 
       ≡ cond (stores_reply f w m g) (length g.current + 1) (length g.current)
   pub words : (transition o (reply (m * 8) number)).readbacks
       ≡ cond (stores_reply f w m g)
-      (stored_after o g (stored_word o.channel.sequencer.last o.user (not (crc_right id word aux crc)) id word))
+      (stored_after o g (stored_word (send_of o.channel.sequencer.last) o.user (not (crc_right id word aux crc)) id word))
       o.readbacks
   -- "A wrong CRC, kept or lost, latches CRC."
   pub status : (transition o (reply (m * 8) number)).channel.status

@@ -1,8 +1,9 @@
 -- Document 02, card 6: which stored words have D25 set, over any history. What is told of tags goes by calls and what they answered (specs/TagChanges): a
 -- setpoint send is a tick that answered a frame, and not a command frame, so that a command frame neither uses nor ends a tag. Which frames are command
 -- frames, and how words are grouped, is told as in specs/History, by the code of the Group End event: `TagsTold` has it that this is what was written.
-use Rattle.std.specs.Prelude.{ℕ, ◌+◌, ◌*◌, ◌<◌, ◌≡◌, Bool, true, cond, List, [], ◌∷◌, map, length, get_or}
+use Rattle.std.specs.Prelude.{ℕ, ◌+◌, ◌*◌, ◌<◌, ◌≡◌, Bool, true, cond, List, [], ◌∷◌, map, length, get_or, IsSome}
 use Rattle.status.specs.Bits.{bit_at}
+use Rattle.sequencer.specs.Playing.{send_of}
 use Rattle.channel_core.specs.Answers.{value, part, part_length}
 use Rattle.channel.specs.OneChannel.{ChannelCall, OneChannel, one_channel, response, transitions, read_register, query, retired, retired_length}
 use Rattle.histories.specs.TagChanges.{Tags, opened_tags, sent_tags}
@@ -29,7 +30,7 @@ pub record HoldsTags (o : OneChannel) (g : Tags) : Type 0 where
   pub armed : o.channel.sequencer.armed ≡ g.armed
   pub registers : (i : ℕ) → i < 7 → response o (read_register (0x20 + i * 2)) ≡ value (get_or g.events i 0)
   pub tag : o.channel.sequencer.tag ≡ g.tag
-  pub tagged : o.channel.sequencer.last.sent ≡ true → o.channel.sequencer.last.tagged ≡ g.tagged
+  pub tagged : IsSome o.channel.sequencer.last → (send_of o.channel.sequencer.last).tagged ≡ g.tagged
   pub only_armed : g.tag ≡ true → g.armed ≡ true
 
 -- from an opening, after any list of calls

@@ -14,6 +14,7 @@ pub fn read_full<R: Read>(input: &mut R, bytes: &mut [u8]) -> io::Result<usize>
     ensures end { IfOk result (λ n. n < length bytes.new → IsAtEnd (R.remaining input.new)) }
 {
     let mut done: usize = 0;
+    // No `for`: a read brings as many bytes as it likes.
     while done < bytes.len() {
         let read = input.read(&mut bytes[done..])?;
         if read == 0 {

@@ -4,7 +4,8 @@
 -- PortionsTold, DownloadStays and DownloadAccepted in Downloads, LastTickNamed and LastTickSeen in LastTicks, the others in Refused and Others.
 use Rattle.std.specs.Prelude.{ℕ, ◌+◌, ◌-◌, ◌*◌, ◌<◌, ◌≤◌, ◌≡◌, Bool, true, false, not, List, [], ◌∷◌, ◌++◌, length, get_or}
 use Rattle.status.specs.Bits.{bit_at, bit_of}
-use Rattle.sequencer.specs.declared.Transmission.TheVariants as transmission
+use Rattle.sequencer.specs.Playing.{send_of}
+use Rattle.sequencer.specs.Transmissions as transmission
 use Rattle.command_frames.specs.Commanding.{is_due}
 use Rattle.channel_core.specs.Results.{TickReason}
 use Rattle.channel_core.specs.Answers as ans
@@ -64,7 +65,7 @@ pub record Shows (n m c : ℕ) (w : World) (o : OneChannel) : Type 0 where
   pub receiving : (channel_at w.board c).commands.receiving ≡ o.channel.commands.receiving
   -- the tag not yet used, and whether the last send used one, which no read shows
   pub tag : (channel_at w.board c).sequencer.tag ≡ o.channel.sequencer.tag
-  pub tagged : (channel_at w.board c).sequencer.last.tagged ≡ o.channel.sequencer.last.tagged
+  pub tagged : (send_of (channel_at w.board c).sequencer.last).tagged ≡ (send_of o.channel.sequencer.last).tagged
   -- the download and its count, which no read shows
   pub download : (channel_at w.board c).download ≡ o.channel.download
   -- the readings of the last send

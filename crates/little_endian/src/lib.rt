@@ -1,7 +1,7 @@
 // Little-endian numbers in a slice of bytes. An index has 32 bits: then those after it are indices too, whatever it is.
 #![tactic(auto)]
 
-ghost use Rattle.std.specs.Prelude.{◌≡◌, get_or};
+ghost use Rattle.std.specs.Prelude.{ℕ, ◌≡◌, ◌+◌, ◌<◌, ◌^◌, get_or};
 ghost use Rattle.little_endian.specs.Numbers.{number16, number32};
 
 // A byte, and 0 past the end.
@@ -9,6 +9,18 @@ fn byte(bytes: &[u8], i: usize) -> u8
     ensures { result ≡ get_or bytes.now i 0 }
 {
     if i < bytes.len() { bytes[i] } else { 0 }
+}
+
+// So many bytes from an index on.
+fn field<const N: usize>(bytes: &[u8], at: usize) -> [u8; N]
+    requires { at + N < 2 ^ 64 }
+    ensures { (k : ℕ) → k < N → get_or result k 0 ≡ get_or bytes.now (at + k) 0 }
+{
+    let mut field = [0; N];
+    for k in 0..N {
+        field[k] = byte(bytes, at + k);
+    }
+    field
 }
 
 pub fn byte_at(bytes: &[u8], i: u32) -> u8
@@ -20,19 +32,11 @@ pub fn byte_at(bytes: &[u8], i: u32) -> u8
 pub fn u16_at(bytes: &[u8], i: u32) -> u16
     ensures { result ≡ number16 bytes.now i }
 {
-    let at = i as usize;
-    let low = byte(bytes, at) as u16;
-    let high = byte(bytes, at + 1) as u16;
-    low + high * 0x100
+    u16::from_le_bytes(field(bytes, i as usize))
 }
 
 pub fn u32_at(bytes: &[u8], i: u32) -> u32
     ensures { result ≡ number32 bytes.now i }
 {
-    let at = i as usize;
-    let first = byte(bytes, at) as u32;
-    let second = byte(bytes, at + 1) as u32;
-    let third = byte(bytes, at + 2) as u32;
-    let fourth = byte(bytes, at + 3) as u32;
-    first + second * 0x100 + third * 0x1_0000 + fourth * 0x100_0000
+    u32::from_le_bytes(field(bytes, i as usize))
 }

@@ -1,57 +1,45 @@
--- A block, by the list of its 8,194 bytes: what is printed and not written yet, and in the last two bytes how much that is. That a write is
--- handed these bytes, and what comes of it, cannot be stated.
-use Rattle.std.specs.Prelude.{ℕ, ◌+◌, ◌*◌, ◌/◌, ◌%◌, ◌≤◌, ◌<◌, ◌≡◌, Bool, true, false, ◌⊎◌, List, ◌++◌, length, get_or, set, take}
+-- What printing and writing do to a printer: to the bytes that are printed and not written yet. That a write is handed these bytes, and what comes
+-- of it, cannot be stated.
+use Rattle.std.specs.Prelude.{ℕ, ◌+◌, ◌*◌, ◌≤◌, ◌≡◌, Bool, true, false, ◌⊎◌, List, ◌++◌, length, take}
+use Rattle.output.specs.declared.printer.Printer.{Printer}
 
--- how many bytes are gathered, the high byte first; of a closed block, more than 8,192
-unfoldable pub count_of : List ℕ → ℕ
-count_of block = get_or block 8192 0 * 256 + get_or block 8193 0
+-- the bytes that are gathered, unless the printer is closed
+abbrev pub gathered : Printer → List ℕ
+gathered p = take p.count p.bytes
 
-unfoldable pub with_count : List ℕ → ℕ → List ℕ
-with_count block n = set (set block 8192 (n / 256)) 8193 (n % 256)
-
--- a block after a write that went well, and after one that failed
-unfoldable pub settled : List ℕ → Bool → List ℕ
-settled block true = with_count block 0
-settled block false = with_count block 65535
-
--- the bytes that are gathered, unless the block is closed
-unfoldable pub gathered : List ℕ → List ℕ
-gathered block = take (count_of block) block
-
--- what reading the count tells
-pub record Counted (n : ℕ) (block : List ℕ) : Type 0 where
-  pub count : n ≡ count_of block
-  pub small : n < 65536
-  pub whole : length block ≡ 8194
+-- after a write that went well nothing is gathered any more, and one that failed closes the printer
+abbrev pub Settled : Printer → Printer → Bool → Type 0
+Settled before after true = (after.bytes ≡ before.bytes) × (after.count ≡ 0) × (after.is_closed ≡ false)
+Settled before after false = (after.bytes ≡ before.bytes) × (after.count ≡ before.count) × (after.is_closed ≡ true)
 
 -- these bytes are so many whole blocks, and then what is gathered
-pub record InBlocks (bytes block : List ℕ) : Type 0 where
+pub record InBlocks (bytes : List ℕ) (p : Printer) : Type 0 where
   pub blocks : ℕ
   pub written : List ℕ
   pub full : length written ≡ blocks * 8192
-  pub rest : bytes ≡ written ++ gathered block
+  pub rest : bytes ≡ written ++ gathered p
 
--- what printing does to a block
-pub record Prints (before after bytes : List ℕ) : Type 0 where
+-- the printer is open, and there is room for the bytes
+abbrev pub HasRoom : Printer → List ℕ → Type 0
+HasRoom p bytes = (p.is_closed ≡ false) × (p.count + length bytes ≤ 8192)
+
+-- what printing does to a printer
+pub record Prints (before after : Printer) (bytes : List ℕ) : Type 0 where
   -- where there is room for the bytes, they are added to what is gathered
-  pub count : count_of before + length bytes ≤ 8192 → count_of after ≡ count_of before + length bytes
-  pub added : count_of before + length bytes ≤ 8192 → gathered after ≡ gathered before ++ bytes
-  -- in any case none is lost, or the block is closed
-  pub kept : count_of after ≤ 8192 → InBlocks (gathered before ++ bytes) after
-  -- a closed block stays as it is
-  pub closed : 8192 < count_of before → after ≡ before
+  pub stays_open : HasRoom before bytes → after.is_closed ≡ false
+  pub count : HasRoom before bytes → after.count ≡ before.count + length bytes
+  pub added : HasRoom before bytes → gathered after ≡ gathered before ++ bytes
+  -- in any case none is lost, or the printer is closed
+  pub kept : after.is_closed ≡ false → InBlocks (gathered before ++ bytes) after
+  -- a closed printer stays as it is
+  pub closed : before.is_closed ≡ true → after ≡ before
 
--- what writing all that is gathered does to a block: it goes by whether the write went well, and a closed one stays as it is
-pub record Flushed (before after : List ℕ) : Type 0 where
+-- what writing all that is gathered does to a printer: it goes by whether the write went well, and a closed one stays as it is
+pub record Flushed (before after : Printer) : Type 0 where
   pub went_well : Bool
-  pub settles : count_of before ≤ 8192 → after ≡ settled before went_well
-  pub closed : 8192 < count_of before → after ≡ before
-
--- a block that was written: empty, or closed
-abbrev pub EmptyOrClosed : List ℕ → Type 0
-EmptyOrClosed block = (count_of block ≡ 0) ⊎ (8192 < count_of block)
+  pub settles : before.is_closed ≡ false → Settled before after went_well
+  pub closed : before.is_closed ≡ true → after ≡ before
 
 -- the same where only a full block is written
-abbrev pub FlushedIfFull : List ℕ → List ℕ → Type 0
-FlushedIfFull before after =
-    ((count_of before ≡ 8192) × (length (gathered before) ≡ 8192) × EmptyOrClosed after) ⊎ ((count_of before ≡ 8192 → ⊥) × (after ≡ before))
+abbrev pub FlushedIfFull : Printer → Printer → Type 0
+FlushedIfFull before after = ((before.count ≡ 8192) × Flushed before after) ⊎ ((before.count ≡ 8192 → ⊥) × (after ≡ before))

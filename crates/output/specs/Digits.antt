@@ -1,6 +1,7 @@
 -- The digits of numbers as text (tests/CALLS.md, Records: "Hexadecimal digits are upper-case"; "all other numbers are decimal").
 use Rattle.std.specs.Prelude.{ℕ, zero, suc, ◌+◌, ◌/◌, ◌%◌, ◌^◌, cond, List, [], ◌∷◌, ◌++◌, ltb}
 use Rattle.io.specs.Digits.{last_digits, IsDigitCount}
+use Rattle.output.specs.declared.printer.Printer.{Printer}
 use Rattle.output.specs.Blocks.{Prints}
 
 -- the upper-case digit of a number below 16
@@ -12,8 +13,8 @@ unfoldable pub hex_of : ℕ → ℕ → List ℕ
 hex_of zero x = []
 hex_of (suc k) x = hex_digit (x / 16 ^ k % 16) ∷ hex_of k x
 
--- what printing these bytes and then a number does to a block: the number has its decimal digits, as few as hold it
-pub record PrintsNumber (before after bytes : List ℕ) (x : ℕ) : Type 0 where
+-- what printing these bytes and then a number does to a printer: the number has its decimal digits, as few as hold it
+pub record PrintsNumber (before after : Printer) (bytes : List ℕ) (x : ℕ) : Type 0 where
   pub places : ℕ
   pub fewest : IsDigitCount 10 1 x places
   pub prints : Prints before after (bytes ++ last_digits 10 places x)

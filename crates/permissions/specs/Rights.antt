@@ -1,5 +1,5 @@
 -- Document 02, card 9: "Three seats: examiner, candidate, watcher." A role is what the card calls a seat; its rights at each channel.
-use Rattle.std.specs.Prelude.{ℕ, Bool, true, false, cond, not, ◌&&◌, ◌||◌, eqb}
+use Rattle.std.specs.Prelude.{ℕ, ◌-◌, Bool, true, false, cond, not, ◌&&◌, ◌||◌, eqb, leb, get_or, replicate}
 use Rattle.permissions.specs.declared.Role.{Role}
 use Rattle.permissions.specs.declared.Role.TheVariants as role
 use Rattle.permissions.specs.declared.Rights.{Rights}
@@ -14,14 +14,12 @@ abbrev pub no_rights : ChannelRights
 no_rights = record { candidate = rights false false; watcher = rights false false }
 
 abbrev pub no_board_rights : BoardRights
-no_board_rights = record { first = no_rights; second = no_rights; third = no_rights; fourth = no_rights }
+no_board_rights = record { channels = replicate 4 no_rights }
 
 -- "The opening gives candidate and watcher a read right and a write right for each channel.": those at channel 1 to 4, and at any other number none
 -- for either
 abbrev pub rights_at : BoardRights → (number : ℕ) → ChannelRights
-rights_at r number =
-    cond (eqb number 1) r.first
-    (cond (eqb number 2) r.second (cond (eqb number 3) r.third (cond (eqb number 4) r.fourth no_rights)))
+rights_at r number = cond (leb 1 number && leb number 4) (get_or r.channels (number - 1) no_rights) no_rights
 
 -- "The examiner has all."
 abbrev pub rights_of : ChannelRights → Role → Rights

@@ -1,280 +1,146 @@
 // The calls by role, each with its answer printed: the words of tests/CALLS.md, Records, after the record's number.
 #![tactic(auto)]
 
-use access_control::{GuardedBoard, Written};
-use call_script::{lent, pool};
-use channel::PartLength;
-use channel_core::Outcome;
-use channel_registers::ReadOutcome;
+use access_control::GuardedBoard;
+use call_script::lent::Buffers;
+use call_script::pool;
 use channel_replies::Receipt;
-use guarded_board::InterruptLevel;
-use output::Block;
-use permissions::{BoardRights, Role};
+use output::Printer;
+use permissions::Role;
 use refusal::Refusal;
-use std::io::Stdout;
 
-pub fn ok(out: Stdout, block: &mut Block) {
-    output::text(out, block, b" ok");
+pub fn ok(printer: &mut Printer) {
+    printer.text(b" ok");
 }
 
-pub fn refused(out: Stdout, block: &mut Block, reason: Refusal) {
-    output::numbered(out, block, b" refused ", refusal::number(reason) as u64);
+pub fn refused(printer: &mut Printer, reason: Refusal) {
+    printer.numbered(b" refused ", u64::from(u8::from(reason)));
 }
 
-fn outcome(out: Stdout, block: &mut Block, answer: Outcome) {
+// Prints a call's answer: what it tells, as `tell` does, or the refusal.
+pub fn answer<T, F: Fn(&mut Printer, T) + Copy>(
+    printer: &mut Printer,
+    answer: Result<T, Refusal>,
+    tell: F,
+)
+    requires { F.IsAlwaysCallable tell }
+{
     match answer {
-        Outcome::Done => ok(out, block),
-        Outcome::Refused(reason) => refused(out, block, reason),
+        Ok(told) => tell(printer, told),
+        Err(reason) => refused(printer, reason),
     }
 }
 
-fn value(out: Stdout, block: &mut Block, contents: u16) {
-    output::text(out, block, b" value ");
-    output::hex_value(out, block, contents);
-}
-
-fn read_outcome(out: Stdout, block: &mut Block, answer: ReadOutcome) {
-    match answer {
-        ReadOutcome::Value(contents) => value(out, block, contents),
-        ReadOutcome::Refused(reason) => refused(out, block, reason),
-    }
-}
-
-fn receipt(out: Stdout, block: &mut Block, answer: Receipt) {
-    match answer {
-        Receipt::Kept => output::text(out, block, b" kept"),
-        Receipt::Lost => output::text(out, block, b" lost"),
-        Receipt::Unsolicited => output::text(out, block, b" unasked"),
-        Receipt::Refused(reason) => refused(out, block, reason),
-    }
-}
-
-// Prints the outcome, and hands on the board after the call.
-fn done(out: Stdout, block: &mut Block, written: Written) -> GuardedBoard {
-    let board = written.board;
-    let answer = written.outcome;
-    outcome(out, block, answer);
-    board
-}
-
-pub fn open(
-    out: Stdout,
-    block: &mut Block,
-    n: u32,
-    m: u32,
-    rights: BoardRights,
-    setpoints: &[u32],
-    readbacks: &[u32],
-) -> GuardedBoard {
-    done(
-        out,
-        block,
-        guarded_board::open(n, m, rights, setpoints, readbacks),
-    )
+// The answer of a call that has nothing to tell but that it was done.
+pub fn done(printer: &mut Printer, outcome: Result<(), Refusal>) {
+    answer(
+        printer,
+        outcome,
+        |printer: &mut Printer, _done: ()| ok(printer),
+    );
 }
 
 pub fn write_register(
-    out: Stdout,
-    block: &mut Block,
-    b: GuardedBoard,
+    printer: &mut Printer,
+    g: &mut GuardedBoard,
     role: Role,
     readbacks: &mut [u32],
     address: u32,
     value: u16,
-) -> GuardedBoard {
+) {
     done(
-        out,
-        block,
-        guarded_registers::write_register(b, role, readbacks, address, value),
-    )
-}
-
-pub fn read_register(
-    out: Stdout,
-    block: &mut Block,
-    b: GuardedBoard,
-    role: Role,
-    address: u32,
-) -> GuardedBoard {
-    let read = guarded_registers::read_register(b, role, address);
-    let board = read.board;
-    let answer = read.outcome;
-    read_outcome(out, block, answer);
-    board
-}
-
-pub fn write_setpoint(
-    out: Stdout,
-    block: &mut Block,
-    b: GuardedBoard,
-    role: Role,
-    setpoints: &mut [u32],
-    number: u32,
-    user: u32,
-    buffer: u32,
-    index: u32,
-    word: u32,
-) -> GuardedBoard {
-    outcome(
-        out,
-        block,
-        guarded_channels::write_setpoint(b, role, setpoints, number, user, buffer, index, word),
+        printer,
+        guarded_registers::write_register(g, role, readbacks, address, value),
     );
-    b
 }
 
-pub fn arm(
-    out: Stdout,
-    block: &mut Block,
-    b: GuardedBoard,
-    role: Role,
-    number: u32,
-) -> GuardedBoard {
-    done(out, block, guarded_channels::arm(b, role, number))
+pub fn read_register(printer: &mut Printer, g: &mut GuardedBoard, role: Role, address: u32) {
+    answer(
+        printer,
+        guarded_registers::read_register(g, role, address),
+        |printer: &mut Printer, value: u16| {
+            printer.text(b" value ");
+            printer.hex_value(value);
+        },
+    );
 }
 
-pub fn disarm(
-    out: Stdout,
-    block: &mut Block,
-    b: GuardedBoard,
-    role: Role,
-    number: u32,
-) -> GuardedBoard {
-    done(out, block, guarded_channels::disarm(b, role, number))
+pub fn arm(printer: &mut Printer, g: &mut GuardedBoard, role: Role, number: u32) {
+    done(printer, guarded_channels::arm(g, role, number));
+}
+
+pub fn disarm(printer: &mut Printer, g: &mut GuardedBoard, role: Role, number: u32) {
+    done(printer, guarded_channels::disarm(g, role, number));
+}
+
+fn receipt(printer: &mut Printer, receipt: Receipt) {
+    match receipt {
+        Receipt::Kept => printer.text(b" kept"),
+        Receipt::Lost => printer.text(b" lost"),
+        Receipt::Unsolicited => printer.text(b" unasked"),
+    }
 }
 
 pub fn reply(
-    out: Stdout,
-    block: &mut Block,
-    b: GuardedBoard,
+    printer: &mut Printer,
+    g: &mut GuardedBoard,
     role: Role,
     readbacks: &mut [u32],
     number: u32,
     frame: u64,
-) -> GuardedBoard {
-    let received = guarded_channels::reply(b, role, readbacks, number, frame);
-    let board = received.board;
-    let answer = received.receipt;
-    receipt(out, block, answer);
-    board
-}
-
-// A word of a part.
-fn word(out: Stdout, block: &mut Block, word: u32) {
-    output::text(out, block, b" ");
-    output::hex_word(out, block, word);
-}
-
-fn words(out: Stdout, block: &mut Block, part: &[u32]) {
-    let mut i: usize = 0;
-    while i < part.len() {
-        word(out, block, part[i]);
-        i += 1;
-    }
-}
-
-pub fn part(out: Stdout, block: &mut Block, part: &[u32]) {
-    output::text(out, block, b" part");
-    words(out, block, part);
-}
-
-pub fn length(out: Stdout, block: &mut Block, answer: PartLength) {
-    match answer {
-        PartLength::Words(count) => output::numbered(out, block, b" length ", count as u64),
-        PartLength::Refused(reason) => refused(out, block, reason),
-    }
-}
-
-pub fn retired<'a>(
-    out: Stdout,
-    block: &mut Block,
-    b: GuardedBoard,
-    role: Role,
-    number: u32,
-    one: &'a [u32],
-    two: &'a [u32],
 ) {
-    part(
-        out,
-        block,
-        guarded_readings::retired(b, role, number, one, two),
+    answer(
+        printer,
+        guarded_channels::reply(g, role, readbacks, number, frame),
+        receipt,
     );
 }
 
-pub fn retired_length<'a>(
-    out: Stdout,
-    block: &mut Block,
-    b: GuardedBoard,
-    role: Role,
-    number: u32,
-    one: &'a [u32],
-    two: &'a [u32],
-) {
-    length(
-        out,
-        block,
-        guarded_readings::retired_length(b, role, number, one, two),
-    );
-}
-
-// A channel's retired count, asked by the examiner with its own two buffers, after these words.
-fn retired_count(
-    out: Stdout,
-    block: &mut Block,
-    b: GuardedBoard,
-    readbacks: &[u32],
-    channel: u8,
-    words: &[u8],
-) {
-    let board = b.board;
-    let one = pool::part(readbacks, lent::first_buffer(0, board.m, channel));
-    let two = pool::part(readbacks, lent::second_buffer(0, board.m, channel));
-    let length = guarded_readings::retired_length(b, Role::Examiner, channel as u32, one, two);
-    match length {
-        PartLength::Words(count) => output::numbered(out, block, words, count as u64),
-        PartLength::Refused(_) => {}
+pub fn part(printer: &mut Printer, part: &[u32]) {
+    printer.text(b" part");
+    for word in part {
+        printer.text(b" ");
+        printer.hex_word(*word);
     }
 }
 
-// The retired counts of channels 1 to 4.
-pub fn retired_counts(
-    out: Stdout,
-    block: &mut Block,
-    b: GuardedBoard,
-    readbacks: &[u32],
-    words: &[u8],
-) {
-    retired_count(out, block, b, readbacks, 1, words);
-    retired_count(out, block, b, readbacks, 2, words);
-    retired_count(out, block, b, readbacks, 3, words);
-    retired_count(out, block, b, readbacks, 4, words);
+pub fn length(printer: &mut Printer, length: Result<usize, Refusal>) {
+    answer(printer, length, |printer: &mut Printer, length: usize| {
+        printer.numbered(b" length ", length as u64)
+    });
+}
+
+// The retired counts of channels 1 to 4, each asked by the examiner with the channel's own two buffers, after these words.
+pub fn retired_counts(printer: &mut Printer, g: &GuardedBoard, readbacks: &[u32], words: &[u8]) {
+    for channel in 1..=4u8 {
+        let (first, second) = Buffers::Own.spans(g.board.m, channel);
+        let one = pool::part(readbacks, first);
+        let two = pool::part(readbacks, second);
+        let number = u32::from(channel);
+        if let Ok(count) = guarded_readings::retired_length(g, Role::Examiner, number, one, two) {
+            printer.numbered(words, count as u64);
+        }
+    }
 }
 
 pub fn event(
-    out: Stdout,
-    block: &mut Block,
-    b: GuardedBoard,
+    printer: &mut Printer,
+    g: &mut GuardedBoard,
     role: Role,
     readbacks: &mut [u32],
     code: u8,
-) -> GuardedBoard {
-    done(out, block, guarded_board::event(b, role, readbacks, code))
+) {
+    done(printer, guarded_board::event(g, role, readbacks, code));
 }
 
-pub fn change_user(
-    out: Stdout,
-    block: &mut Block,
-    b: GuardedBoard,
-    role: Role,
-    user: u32,
-) -> GuardedBoard {
-    done(out, block, guarded_board::change_user(b, role, user))
+pub fn change_user(printer: &mut Printer, g: &mut GuardedBoard, role: Role, user: u32) {
+    done(printer, guarded_board::change_user(g, role, user));
 }
 
-pub fn interrupt_level(out: Stdout, block: &mut Block, b: GuardedBoard, role: Role) {
-    let answer = guarded_board::interrupt_level(b, role);
-    match answer {
-        InterruptLevel::Level(level) => output::numbered(out, block, b" level ", level as u64),
-        InterruptLevel::Refused(reason) => refused(out, block, reason),
-    }
+pub fn interrupt_level(printer: &mut Printer, g: &GuardedBoard, role: Role) {
+    answer(
+        printer,
+        guarded_board::interrupt_level(g, role),
+        |printer: &mut Printer, level: u8| printer.numbered(b" level ", u64::from(level)),
+    );
 }

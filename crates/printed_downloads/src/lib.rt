@@ -3,56 +3,41 @@
 
 use access_control::GuardedBoard;
 use guarded_readings::download;
-use output::Block;
+use output::Printer;
 use permissions::Role;
-use std::io::Stdout;
 
-pub fn open(
-    out: Stdout,
-    block: &mut Block,
-    b: GuardedBoard,
-    role: Role,
-    number: u32,
-) -> GuardedBoard {
-    let opened = download::open(b, role, number);
-    let board = opened.board;
-    let length = opened.length;
-    printed_calls::length(out, block, length);
-    board
+pub fn open(printer: &mut Printer, g: &mut GuardedBoard, role: Role, number: u32) {
+    printed_calls::length(printer, download::open(g, role, number));
 }
 
-pub fn portion<'a>(
-    out: Stdout,
-    block: &mut Block,
-    b: GuardedBoard,
+pub fn portion(
+    printer: &mut Printer,
+    g: &GuardedBoard,
     role: Role,
     number: u32,
     index: u32,
     size: u32,
-    one: &'a [u32],
-    two: &'a [u32],
+    one: &[u32],
+    two: &[u32],
 ) {
     printed_calls::part(
-        out,
-        block,
-        download::portion(b, role, number, index, size, one, two),
+        printer,
+        download::portion(g, role, number, index, size, one, two),
     );
 }
 
-pub fn portion_length<'a>(
-    out: Stdout,
-    block: &mut Block,
-    b: GuardedBoard,
+pub fn portion_length(
+    printer: &mut Printer,
+    g: &GuardedBoard,
     role: Role,
     number: u32,
     index: u32,
     size: u32,
-    one: &'a [u32],
-    two: &'a [u32],
+    one: &[u32],
+    two: &[u32],
 ) {
     printed_calls::length(
-        out,
-        block,
-        download::portion_length(b, role, number, index, size, one, two),
+        printer,
+        download::portion_length(g, role, number, index, size, one, two),
     );
 }

@@ -1,6 +1,6 @@
 -- Indices that rise strictly: the test, and what it says of neighbours. Assumes nothing.
-use mathlib.Core.Path.{◌≡◌, refl}
-use Prim.Native.Nat.{ℕ, zero, suc, ◌≤◌, ◌<◌}
+use mathlib.Core.Path.{◌≡◌, refl, subst}
+use Prim.Native.Nat.{ℕ, zero, suc, ◌-◌, ◌≤◌, ◌<◌}
 use native.Mathlib.Omega.{arith}
 use mathlib.Core.Bool.{true, false}
 use mathlib.Core.List.{List, [], ◌∷◌}
@@ -30,3 +30,10 @@ increasing_not [] k h l = absurd (omega arith)
 increasing_not (a ∷ []) k h l = absurd (omega arith)
 increasing_not (a ∷ b ∷ ps) zero h l = simp (le-ltb a.index b.index l)
 increasing_not (a ∷ b ∷ ps) (suc k) h l = and_false (ltb a.index b.index) (is_increasing (b ∷ ps)) (increasing_not (b ∷ ps) k (omega arith) l)
+
+-- the same of an element and the one before it
+pub falls_at : (ps : List Breakpoint) (k : ℕ) → 0 < k → k < length ps → index_at ps k ≤ index_at ps (k - 1) → is_increasing ps ≡ false
+falls_at ps zero p h l = absurd (omega arith)
+falls_at ps (suc k) p h l =
+    let e : suc k - 1 ≡ k = omega arith in
+    increasing_not ps k h (subst (λ (j : ℕ). index_at ps (suc k) ≤ index_at ps j) e l)

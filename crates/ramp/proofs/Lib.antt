@@ -5,10 +5,8 @@ pub mod Rounding
 pub mod Increasing
 pub mod Validity
 pub mod Segments
-pub mod Copies
 pub mod Words
 pub mod Filling
-pub mod Call
 pub mod Exact
 pub mod Laws
 pub mod Only

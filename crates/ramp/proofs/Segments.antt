@@ -12,7 +12,7 @@ use borrow.Author.Tests.{le-leb, lt-leb}
 use Rattle.ramp.specs.declared.Breakpoint.{Breakpoint}
 use Rattle.ramp.specs.Ramp.{zero_point, Segment, segment, segment_from, segment_of, index_at, last_index}
 use Rattle.ramp.specs.Rules.{Rules}
-use Rattle.ramp.specs.Copying.{Brackets}
+use Rattle.ramp.specs.Rules.{Brackets}
 
 -- the neighbours k and k + 1
 abbrev pub neighbours : List Breakpoint → ℕ → Segment

@@ -2,6 +2,5 @@ pub mod Interpolation
 pub mod Ramp
 pub mod Rules
 pub mod Answers
-pub mod Copying
 pub mod Laws
 pub mod Rows

@@ -21,3 +21,10 @@ pub record Rules (ps : List Breakpoint) (n code_words remainder_words : ℕ) : T
   -- neither "lent buffer shorter than N"
   pub codes : n ≤ code_words
   pub remainders : n ≤ remainder_words
+
+-- p and q have i between them or at one of them; below the largest N, so that nothing overflows
+pub record Brackets (p q i : ℕ) : Type 0 where
+  pub after : p ≤ i
+  pub before : i ≤ q
+  pub apart : p < q
+  pub small : q < 1048576

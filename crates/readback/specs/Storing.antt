@@ -1,9 +1,10 @@
 -- Document 01, 'A channel's life': replies, the words stored for them, and the retired part. Document 02, card 3: an end word in every retired buffer;
 -- card 6: the tag in a stored word.
 -- Of the state, "both stored readback counts": `stored` is that of the active buffer, `retired` that of the inactive one.
-use Rattle.std.specs.Prelude.{ℕ, ◌+◌, ◌-◌, ◌*◌, ◌%◌, ◌≡◌, Bool, true, false, cond, not, ◌&&◌, List, set, take, ltb}
+use Rattle.std.specs.Prelude.{ℕ, ◌+◌, ◌-◌, ◌*◌, ◌%◌, ◌≡◌, Bool, true, false, cond, not, ◌&&◌, List, set, take, ltb, Option, is_some}
 use Rattle.status.specs.Bits.{bit_of}
 use Rattle.sequencer.specs.declared.LastSend.{LastSend}
+use Rattle.sequencer.specs.Playing.{send_of}
 use Rattle.readback.specs.declared.Readbacks.{Readbacks}
 use Rattle.readback.specs.declared.Disposition.{Disposition}
 use Rattle.readback.specs.declared.Disposition.TheVariants as disposition
@@ -30,11 +31,11 @@ abbrev pub place_of : Bool → ℕ → ℕ → ℕ
 place_of second m index = cond second (m + index) index
 
 -- "A reply is kept if not idle, a setpoint was sent since idle, and fewer than six replies have followed the last such send"
-abbrev pub is_due : Bool → LastSend → Bool
-is_due idle l = not idle && (l.sent && ltb l.replies 6)
+abbrev pub is_due : Bool → Option LastSend → Bool
+is_due idle l = not idle && (is_some l && ltb (send_of l).replies 6)
 
 -- "else it is "unasked". If the buffer is full it is "lost""; card 3: "A buffer of depth M takes M − 1 readbacks and the next is lost."
-unfoldable pub disposition_of : Bool → LastSend → ℕ → ℕ → Disposition
+unfoldable pub disposition_of : Bool → Option LastSend → ℕ → ℕ → Disposition
 disposition_of idle l stored m =
     cond (is_due idle l) (cond (ltb stored (capacity m)) disposition.Kept disposition.Lost) disposition.Unsolicited
 

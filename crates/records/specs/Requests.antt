@@ -1,5 +1,6 @@
 -- Document 01, 'Run file and log line': what a record asks, for every string of 8 bytes.
-use Rattle.std.specs.Prelude.{ℕ, ◌+◌, ◌*◌, ◌/◌, ◌%◌, cond, ◌||◌, List, get_or, eqb, ltb}
+use Rattle.std.specs.Prelude.{ℕ, ◌+◌, ◌*◌, ◌/◌, ◌%◌, cond, ◌||◌, Option, Some, None, Result, Ok, Err, List, get_or, eqb, ltb}
+use Rattle.refusal.specs.declared.Refusal.{Refusal}
 use Rattle.little_endian.specs.Numbers.{number16, number32}
 use Rattle.records.specs.declared.Request.{Request}
 use Rattle.records.specs.declared.Request.TheVariants as request
@@ -53,15 +54,24 @@ asked_by kind number a b =
 unfoldable pub asked_of : List ℕ → Asked
 asked_of s = asked_by (get_or s 0 0) (get_or s 1 0) (number16 s 2) (number32 s 4)
 
--- what each case of the code's answer stands for
-abbrev pub request_of : Request → Asked
-request_of (request.Write address value) = write address value
-request_of (request.Read address) = read address
-request_of (request.Setpoint number u buffer index word) = setpoint number u buffer index word
-request_of (request.Event code) = event code
-request_of (request.Ticks count) = ticks count
-request_of (request.Reply number frame) = reply number frame
-request_of (request.User u) = user u
-request_of (request.Arm number) = arm number
-request_of (request.Disarm number) = disarm number
-request_of request.Bad = bad
+-- what each case of the code's request stands for
+abbrev pub asked : Request → Asked
+asked (request.Write address value) = write address value
+asked (request.Read address) = read address
+asked (request.Setpoint number u buffer index word) = setpoint number u buffer index word
+asked (request.Event code) = event code
+asked (request.Ticks count) = ticks count
+asked (request.Reply number frame) = reply number frame
+asked (request.User u) = user u
+asked (request.Arm number) = arm number
+asked (request.Disarm number) = disarm number
+
+-- the same where there may be none
+abbrev pub asked_or_bad : Option Request → Asked
+asked_or_bad (Some r) = asked r
+asked_or_bad None = bad
+
+-- and of what is decoded: a refused record is a bad one
+abbrev pub request_of : Result Request Refusal → Asked
+request_of (Ok r) = asked r
+request_of (Err k) = bad

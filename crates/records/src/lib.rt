@@ -1,22 +1,15 @@
 // The run file's reader, and what each of its records asks.
 #![tactic(auto)]
 
-ghost use Rattle.std.specs.Prelude.{◌≡◌};
+ghost use Rattle.std.specs.Prelude.{◌≡◌, IfErr};
 ghost use Rattle.records.specs.Files.{records_part, records_length};
 ghost use Rattle.records.specs.Answers.{bytes_of};
-ghost use Rattle.records.specs.Requests.{request_of, write_asked, setpoint_asked, event_asked, ticks_asked, arm_asked, asked_by, asked_of};
+ghost use Rattle.records.specs.Requests.{asked_or_bad, request_of, write_asked, setpoint_asked, event_asked, ticks_asked, arm_asked, asked_by, asked_of};
 
 use refusal::Refusal;
 
-// The answer of the call beside the reader: the length of the records in bytes.
-#[derive(Clone, Copy)]
-pub enum RecordsLength {
-    Bytes(usize),
-    Refused(Refusal),
-}
-
-// What a record asks of the board; `Bad` is refused 9.
-#[derive(Clone, Copy)]
+// What a record asks of the board.
+#[derive(Clone, Copy, Debug, PartialEq, Eq)]
 pub enum Request {
     Write {
         address: u32,
@@ -51,140 +44,122 @@ pub enum Request {
     Disarm {
         number: u32,
     },
-    Bad,
 }
 
-// The length of what `records` gives, or the refusal.
+// The length in bytes of what `records` gives, or the refusal.
 #[tactic(auto, unfolding(crate::specs::Files::distance, crate::specs::Files::count, crate::specs::Files::records_length, crate::specs::Files::file_refusal))]
-pub fn records_length(file: &[u8]) -> RecordsLength
+pub fn records_length(file: &[u8]) -> Result<usize, Refusal>
     ensures { bytes_of result ≡ records_length file.now }
 {
     let size = file.len();
-    if 65536 < size {
-        return RecordsLength::Refused(Refusal::BadTrailer);
+    if !(8..=65536).contains(&size) {
+        return Err(Refusal::BadTrailer);
     }
-    if size < 8 {
-        return RecordsLength::Refused(Refusal::BadTrailer);
+    let distance = u64::from(little_endian::u32_at(file, (size - 8) as u32));
+    let count = u64::from(little_endian::u32_at(file, (size - 4) as u32));
+    if distance != 8 * count + 8 || (size as u64) < distance {
+        return Err(Refusal::BadTrailer);
     }
-    let distance = little_endian::u32_at(file, (size - 8) as u32) as u64;
-    let count = little_endian::u32_at(file, (size - 4) as u32) as u64;
-    if distance != 8 * count + 8 {
-        return RecordsLength::Refused(Refusal::BadTrailer);
-    }
-    if (size as u64) < distance {
-        return RecordsLength::Refused(Refusal::BadTrailer);
-    }
-    RecordsLength::Bytes(8 * count as usize)
+    Ok(8 * count as usize)
 }
 
 // The records: the part of the file between preamble and trailer, empty where refused.
-pub fn records<'a>(file: &'a [u8]) -> &'a [u8]
+pub fn records(file: &[u8]) -> &[u8]
     ensures { result.now ≡ records_part file.now }
 {
-    let answer = records_length(file);
-    match answer {
-        RecordsLength::Bytes(length) => {
+    match records_length(file) {
+        Ok(length) => {
             let end = file.len() - 8;
             let start = end - length;
             &file[start..end]
         }
-        RecordsLength::Refused(_) => &file[..0],
+        Err(_) => &file[..0],
     }
 }
 
-fn write_request(a: u16, b: u32) -> Request
-    ensures { request_of result ≡ write_asked a b }
+fn write_request(a: u16, b: u32) -> Option<Request>
+    ensures { asked_or_bad result ≡ write_asked a b }
 {
-    if 65535 < b {
-        return Request::Bad;
-    }
-    Request::Write {
-        address: a as u32,
-        value: b as u16,
-    }
+    let value = u16::try_from(b).ok()?;
+    Some(Request::Write {
+        address: u32::from(a),
+        value,
+    })
 }
 
-fn setpoint_request(number: u8, a: u16, b: u32) -> Request
-    ensures { request_of result ≡ setpoint_asked number a b }
+fn setpoint_request(number: u8, a: u16, b: u32) -> Option<Request>
+    ensures { asked_or_bad result ≡ setpoint_asked number a b }
 {
-    if 255 < a {
-        return Request::Bad;
-    }
-    Request::Setpoint {
-        number: number as u32,
-        user: a as u32 / 32 + 1,
-        buffer: a as u32 / 16 % 2 + 1,
-        index: a as u32 % 16,
+    let place = u32::from(u8::try_from(a).ok()?);
+    Some(Request::Setpoint {
+        number: u32::from(number),
+        user: place / 32 + 1,
+        buffer: place / 16 % 2 + 1,
+        index: place % 16,
         word: b,
-    }
+    })
 }
 
-fn event_request(b: u32) -> Request
-    ensures { request_of result ≡ event_asked b }
+fn event_request(b: u32) -> Option<Request>
+    ensures { asked_or_bad result ≡ event_asked b }
 {
-    if 255 < b {
-        return Request::Bad;
-    }
-    Request::Event { code: b as u8 }
+    let code = u8::try_from(b).ok()?;
+    Some(Request::Event { code })
 }
 
-fn ticks_request(b: u32) -> Request
-    ensures { request_of result ≡ ticks_asked b }
+fn ticks_request(b: u32) -> Option<Request>
+    ensures { asked_or_bad result ≡ ticks_asked b }
 {
-    if b < 1 {
-        return Request::Bad;
+    if (1..=10000).contains(&b) {
+        Some(Request::Ticks { count: b })
+    } else {
+        None
     }
-    if 10000 < b {
-        return Request::Bad;
-    }
-    Request::Ticks { count: b }
 }
 
-fn arm_request(number: u8, b: u32) -> Request
-    ensures { request_of result ≡ arm_asked number b }
+fn arm_request(number: u8, b: u32) -> Option<Request>
+    ensures { asked_or_bad result ≡ arm_asked number b }
 {
-    if b == 1 {
-        return Request::Arm {
-            number: number as u32,
-        };
+    let number = u32::from(number);
+    match b {
+        1 => Some(Request::Arm { number }),
+        0 => Some(Request::Disarm { number }),
+        _ => None,
     }
-    if b == 0 {
-        return Request::Disarm {
-            number: number as u32,
-        };
-    }
-    Request::Bad
 }
 
-// What a record asks, by its kind, channel, a and b.
+// What a record asks, by its kind, channel, a and b; nothing where it is bad.
 #[tactic(auto, unfolding(crate::specs::Requests::asked_by))]
-fn decode_fields(kind: u8, number: u8, a: u16, b: u32) -> Request
-    ensures { request_of result ≡ asked_by kind number a b }
+fn decode_fields(kind: u8, number: u8, a: u16, b: u32) -> Option<Request>
+    ensures { asked_or_bad result ≡ asked_by kind number a b }
 {
     match kind {
         1 => write_request(a, b),
-        2 => Request::Read { address: a as u32 },
+        2 => Some(Request::Read {
+            address: u32::from(a),
+        }),
         3 => setpoint_request(number, a, b),
         4 => event_request(b),
         5 => ticks_request(b),
-        6 => Request::Reply {
-            number: number as u32,
-            frame: a as u64 * 4294967296 + b as u64,
-        },
-        7 => Request::User { user: b },
+        6 => Some(Request::Reply {
+            number: u32::from(number),
+            frame: u64::from(a) * 4294967296 + u64::from(b),
+        }),
+        7 => Some(Request::User { user: b }),
         8 => arm_request(number, b),
-        _ => Request::Bad,
+        _ => None,
     }
 }
 
 // What a record of 8 bytes asks.
 #[tactic(auto, unfolding(crate::specs::Requests::asked_of))]
-pub fn decode(bytes: &[u8]) -> Request
-    ensures { request_of result ≡ asked_of bytes.now }
+pub fn decode(bytes: &[u8]) -> Result<Request, Refusal>
+    ensures request { request_of result ≡ asked_of bytes.now }
+    ensures reason { IfErr result (λ reason. reason ≡ Refusal.BadRecord) }
 {
     let kind = little_endian::byte_at(bytes, 0);
     let number = little_endian::byte_at(bytes, 1);
     let a = little_endian::u16_at(bytes, 2);
     let b = little_endian::u32_at(bytes, 4);
-    decode_fields(kind, number, a, b)
+    decode_fields(kind, number, a, b).ok_or(Refusal::BadRecord)
 }

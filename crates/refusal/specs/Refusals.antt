@@ -1,10 +1,8 @@
 -- Document 01, 'Calls': the number that its table ("Number", "Trade's word", "Condition") gives each refusal, and those that requests of document 02
 -- add ("Numbers that cards add join document 01's list"). The only place where they stand.
-use Rattle.std.specs.Prelude.{ℕ}
+use Rattle.std.specs.Prelude.{ℕ, Result, Ok, Err}
 use Rattle.refusal.specs.declared.Refusal.{Refusal}
 use Rattle.refusal.specs.declared.Refusal.TheVariants as refusal
-use Rattle.refusal.specs.declared.Verdict.{Verdict}
-use Rattle.refusal.specs.declared.Verdict.TheVariants as verdict
 
 abbrev pub number_of : Refusal → ℕ
 number_of refusal.SizeMismatch = 1
@@ -21,7 +19,7 @@ number_of refusal.InvalidRamp = 11
 number_of refusal.NoDownload = 12
 number_of refusal.PermissionDenied = 13
 
--- the number that each case of a verdict stands for; 0 is no refusal
-abbrev pub verdict_number : Verdict → ℕ
-verdict_number verdict.Allowed = 0
-verdict_number (verdict.Refused r) = number_of r
+-- the number that the result of a check stands for; 0 is no refusal
+abbrev pub verdict_number : Result Unit Refusal → ℕ
+verdict_number (Ok done) = 0
+verdict_number (Err r) = number_of r

@@ -7,7 +7,7 @@ use native.Mathlib.Omega.{arith}
 use lib.Dec.{leb}
 use borrow.Author.Tests.{leb-true, lt-leb}
 use Rattle.register_map.specs.AccessRule.{Span, covers, access_by}
-use Rattle.register_map.specs.declared.Access.TheVariants as access
+use Rattle.std.specs.Prelude.{None}
 
 -- each span starts at low or later and ends at high or earlier
 abbrev pub inside : ℕ → ℕ → List Span → Bool
@@ -35,8 +35,8 @@ module _ (low high : ℕ) where
       simp (lt-leb offset s.last (omega (arith, head s ss e)), and-false, past ss offset (tail s ss e) h)
 
 module _ (map read_only write_only : List Span) (offset : ℕ) where
-  pub odd : offset % 2 ≡ 1 → access_by map read_only write_only offset ≡ access.None
+  pub odd : offset % 2 ≡ 1 → access_by map read_only write_only offset ≡ None
   odd h = simp h
 
-  pub uncovered : covers map offset ≡ false → access_by map read_only write_only offset ≡ access.None
+  pub uncovered : covers map offset ≡ false → access_by map read_only write_only offset ≡ None
   uncovered e = simp (e, and-false)

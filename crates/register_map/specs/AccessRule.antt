@@ -1,6 +1,6 @@
 -- Document 01, 'Register map': the access of each offset. What is in the map, what of it is read-only, what write-only. Document 02, card 1: E0–FE;
 -- card 2: 0C; card 6: 2C.
-use Rattle.std.specs.Prelude.{ℕ, ◌+◌, ◌-◌, ◌*◌, ◌%◌, Bool, false, cond, ◌&&◌, ◌||◌, List, [], ◌∷◌, leb, ltb, eqb}
+use Rattle.std.specs.Prelude.{ℕ, ◌+◌, ◌-◌, ◌*◌, ◌%◌, Bool, false, cond, ◌&&◌, ◌||◌, List, [], ◌∷◌, leb, ltb, eqb, Option, Some, None}
 use Rattle.register_map.specs.declared.Access.{Access}
 use Rattle.register_map.specs.declared.Access.TheVariants as access
 
@@ -22,11 +22,11 @@ covers [] offset = false
 covers (s ∷ ss) offset = (leb s.first offset && leb offset s.last) || covers ss offset
 
 -- "Offsets from there are even": an odd one is not in the map. "The rest read and write."
-abbrev pub access_by : (map read_only write_only : List Span) → ℕ → Access
+abbrev pub access_by : (map read_only write_only : List Span) → ℕ → Option Access
 access_by map read_only write_only offset =
     cond (eqb (offset % 2) 0 && covers map offset)
-    (cond (covers read_only offset) access.ReadOnly (cond (covers write_only offset) access.WriteOnly access.ReadWrite))
-    access.None
+    (Some (cond (covers read_only offset) access.ReadOnly (cond (covers write_only offset) access.WriteOnly access.ReadWrite)))
+    None
 
 -- "00 Interrupt Enable, .." to "resume 1–4 delays", in the order of the paper; "Registers E0–FE of each channel join the map";
 -- "Read-only register 0C"; "Register 2C joins the map"
@@ -44,7 +44,7 @@ channel_read_only = only 0x02 ∷ only 0x04 ∷ only 0x0C ∷ only 0x0E ∷ only
 abbrev pub channel_write_only : List Span
 channel_write_only = only 0x06 ∷ only 0x08 ∷ 0x30 to 0x3E ∷ only 0xFC ∷ []
 
-unfoldable pub channel_access : ℕ → Access
+unfoldable pub channel_access : ℕ → Option Access
 channel_access = access_by channel_map channel_read_only channel_write_only
 
 -- "Main: 22 Level, 24 Vector, 26 Enable, 28 Main Interrupt Status and 2A Main Polling Status"
@@ -55,9 +55,9 @@ main_map = only 0x22 ∷ only 0x24 ∷ only 0x26 ∷ only 0x28 ∷ only 0x2A ∷
 abbrev pub main_read_only : List Span
 main_read_only = only 0x28 ∷ only 0x2A ∷ []
 
-unfoldable pub main_access : ℕ → Access
+unfoldable pub main_access : ℕ → Option Access
 main_access = access_by main_map main_read_only []
 
 -- the code's table: a channel's even offsets from 00 to FE, then Main's from 22 to 2A
-unfoldable pub entry_access : ℕ → Access
+unfoldable pub entry_access : ℕ → Option Access
 entry_access i = cond (ltb i 128) (channel_access (2 * i)) (main_access (0x22 + 2 * (i - 128)))

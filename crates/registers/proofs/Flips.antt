@@ -1,4 +1,4 @@
--- One switch more: what `flipped`'s loop takes up at each turn. Assumes nothing.
+-- One switch more: what the loop of `flip` takes up at each turn. Assumes nothing.
 use Prim.Native.Nat.{ℕ, zero, suc, ◌+◌}
 use mathlib.Core.Path.{◌≡◌, refl, ap}
 use mathlib.Core.Bool.{Bool, true, false, cond, not}

@@ -1,3 +1,4 @@
 pub mod Flips
 pub mod Laws
+pub mod Masks
 pub mod Places

@@ -3,6 +3,8 @@ use Rattle.std.specs.Prelude.{ℕ, ◌+◌, ◌-◌, ◌*◌, ◌/◌, ◌%◌, 
 use Rattle.status.specs.Bits.{bit_at, word_of_bits}
 use Rattle.registers.specs.Fields.{with_clock, with_id, with_events, with_switches, with_delays}
 use Rattle.registers.specs.declared.Registers.{Registers}
+use Rattle.registers.specs.declared.Event.{Event}
+use Rattle.registers.specs.declared.Event.TheVariants as event
 
 -- "all registers 0, .. buffers 1 active"
 abbrev pub opened : Registers
@@ -35,6 +37,13 @@ group_end_event = 5
 
 abbrev pub tag_event : ℕ
 tag_event = 6
+
+-- the place of an event's register from 20h
+abbrev pub place_of : Event → ℕ
+place_of event.Start = start_event
+place_of (event.Resume k) = k
+place_of event.GroupEnd = group_end_event
+place_of event.Tag = tag_event
 
 abbrev pub triggers_of : Registers → ℕ → ℕ → Bool
 triggers_of r event code = matches (get_or r.events event 0) code

@@ -2,17 +2,22 @@
 // Interrupt Enable and both statuses stand in the crate `status`.
 #![tactic(auto)]
 
-ghost use Rattle.std.specs.Prelude.{◌≡◌, ◌+◌, ◌-◌, false, get_or};
-ghost use Rattle.registers.specs.Map.{opened, period_of, matches, triggers_of, delay_of, second_active, delay_written, delay_shown, stored, loaded, flips, group_ended};
+ghost use Rattle.std.specs.Prelude.{◌≡◌, ◌+◌, ◌-◌};
+ghost use Rattle.registers.specs.Map.{opened, period_of, matches, place_of, triggers_of, delay_of, second_active, delay_written, delay_shown, stored, loaded, flips, group_ended};
 
-// Events by their registers' places from 20h; Resume k is event k.
-pub const START_EVENT: u8 = 0;
+// The readback buffers' place among the active ones.
+const READBACKS: usize = 8;
 
-pub const GROUP_END_EVENT: u8 = 5;
+// What an event does where its code is that of a register: Resume k, from 1 to 4, is of pause k.
+#[derive(Clone, Copy, Debug, PartialEq, Eq)]
+pub enum Event {
+    Start,
+    Resume(u8),
+    GroupEnd,
+    Tag,
+}
 
-pub const TAG_EVENT: u8 = 6;
-
-#[derive(Clone, Copy)]
+#[derive(Clone, Copy, Debug, PartialEq, Eq)]
 pub struct Registers {
     // 0A
     pub clock: u16,
@@ -46,66 +51,64 @@ pub fn period(clock: u16) -> u32
 fn holds(register: u16, code: u8) -> bool
     ensures { result ≡ matches register code }
 {
-    if register / 256 % 2 == 1 {
-        return register % 256 == code as u16;
-    }
-    false
+    status::is_set(register, 8) && register & 0xff == u16::from(code)
 }
 
 // A user's place from 0.
 pub fn zero_based(user: u8) -> u8
     ensures { result ≡ user - 1 }
 {
-    if 0 < user {
-        return user - 1;
-    }
-    0
+    user.saturating_sub(1)
 }
 
 // A delay with the half written that stands at this offset: the high byte, then the low word.
+#[tactic(auto, using(crate::proofs::Masks::high_byte, crate::proofs::Masks::joined))]
 fn delay_written(offset: u16, old: u32, value: u16) -> u32
     ensures { result ≡ delay_written offset old value }
 {
     if offset % 4 == 0 {
-        return value as u32 % 256 * 65536 + old % 65536;
+        ((u32::from(value) & 0xff) << 16) | (old & 0xffff)
+    } else {
+        (old & 0xff_0000) | u32::from(value)
     }
-    old / 65536 % 256 * 65536 + value as u32
 }
 
-// The half of a delay that a read shows at this offset.
-fn delay_shown(offset: u16, delay: u32) -> u16
-    ensures { result ≡ delay_shown offset delay }
+// The half of a delay, or of the count, that a read shows at this offset.
+fn half_shown(offset: u16, number: u32) -> u16
+    ensures { result ≡ delay_shown offset number }
 {
-    if offset % 4 == 0 {
-        return (delay / 65536 % 256) as u16;
-    }
-    (delay % 65536) as u16
+    let half = if offset % 4 == 0 {
+        (number >> 16) & 0xff
+    } else {
+        number & 0xffff
+    };
+    half as u16
 }
 
-// One of sixteen bits, and false past the last.
-fn flag_at(flags: [bool; 16], index: u8) -> bool
-    ensures { result ≡ get_or flags index false }
+// The active buffers whose switch is set switch.
+#[tactic(auto, using(crate::proofs::Flips::flips_none, crate::proofs::Flips::next_set, crate::proofs::Flips::next_left))]
+fn flip(active: &mut [bool; 16], switches: &[bool; 8])
+    ensures { active.new ≡ flips active.old switches.now }
 {
-    let at = index as usize;
-    if at < 16 {
-        return flags[at];
-    }
-    false
-}
-
-// The active buffers with those switched whose bit is set.
-fn flipped(active: [bool; 16], switches: [bool; 8]) -> [bool; 16]
-    ensures { result ≡ flips active switches }
-{
-    let mut switched = active;
-    let mut i: usize = 0;
-    while i < 8 {
-        if switches[i] {
-            switched[i] = !switched[i];
+    for (place, &switched) in switches.iter().enumerate() {
+        if switched {
+            active[place] = !active[place];
         }
-        i += 1;
     }
-    switched
+}
+
+impl Event {
+    // Its register's place from 20h.
+    fn place(self) -> usize
+        ensures { result ≡ place_of self }
+    {
+        match self {
+            Event::Start => 0,
+            Event::Resume(pause) => usize::from(pause),
+            Event::GroupEnd => 5,
+            Event::Tag => 6,
+        }
+    }
 }
 
 impl Registers {
@@ -124,142 +127,84 @@ impl Registers {
     }
 
     // Whether a code is that of an event's register.
-    pub fn triggers(self, event: u8, code: u8) -> bool
-        ensures { result ≡ triggers_of self event code }
+    pub fn triggers(&self, event: Event, code: u8) -> bool
+        ensures { result ≡ triggers_of self.now (place_of event) code }
     {
-        let at = event as usize;
-        let events = self.events;
-        if at < 7 {
-            return holds(events[at], code);
-        }
-        false
+        let register = self.events.get(event.place());
+        holds(register.copied().unwrap_or(0), code)
     }
 
     // The start delay (bank 0) or the delay of resume 1-4 of a user.
-    pub fn delay(self, bank: u8, user: u8) -> u32
-        ensures { result ≡ delay_of self bank user }
+    pub fn delay(&self, bank: u8, user: u8) -> u32
+        ensures { result ≡ delay_of self.now bank user }
     {
-        let at = bank as usize * 8 + zero_based(user) as usize;
-        let delays = self.delays;
-        if at < 40 {
-            return delays[at];
-        }
-        0
+        let place = usize::from(bank) * 8 + usize::from(zero_based(user));
+        self.delays.get(place).copied().unwrap_or(0)
     }
 
     // Whether buffer 2 is the active one of a user's setpoint buffers.
-    pub fn second_active(self, user: u8) -> bool
-        ensures { result ≡ second_active self (user - 1) }
+    pub fn second_active(&self, user: u8) -> bool
+        ensures { result ≡ second_active self.now (user - 1) }
     {
-        let active = self.active;
-        flag_at(active, zero_based(user))
+        let place = usize::from(zero_based(user));
+        self.active.get(place).copied().unwrap_or(false)
     }
 
     // Whether buffer 2 is the active one of the readback buffers.
-    pub fn readback_second_active(self) -> bool
-        ensures { result ≡ second_active self 8 }
+    pub fn readback_second_active(&self) -> bool
+        ensures { result ≡ second_active self.now 8 }
     {
-        let active = self.active;
-        flag_at(active, 8)
+        self.active[READBACKS]
     }
 
     // A value written at an offset that holds it.
     #[tactic(auto, unfolding(crate::specs::Map::stored))]
-    pub fn stored(self, offset: u16, value: u16) -> Registers
-        ensures { result ≡ stored self offset value }
+    pub fn write(&mut self, offset: u16, value: u16)
+        ensures { self.new ≡ stored self.old offset value }
     {
-        let mut next = self;
-        if offset == 0x0a {
-            next.clock = value;
-            return next;
+        match offset {
+            0x0a => self.clock = value,
+            0x14 => self.id = (value & 0xff) as u8,
+            0x20..0x2e => {
+                let place = usize::from(offset - 0x20) / 2;
+                self.events[place] = value & 0x1ff;
+            }
+            0x30..0x40 => {
+                let place = usize::from(offset - 0x30) / 2;
+                self.switches[place] = status::is_set(value, 0);
+            }
+            0x40..0xe0 => {
+                let place = usize::from(offset - 0x40) / 4;
+                self.delays[place] = delay_written(offset, self.delays[place], value);
+            }
+            _ => {}
         }
-        if offset == 0x14 {
-            next.id = (value % 256) as u8;
-            return next;
-        }
-        if offset < 0x20 {
-            return next;
-        }
-        if offset < 0x2e {
-            let place = (offset as usize - 0x20) / 2;
-            next.events[place] = value % 512;
-            return next;
-        }
-        if offset < 0x30 {
-            return next;
-        }
-        if offset < 0x40 {
-            let place = (offset as usize - 0x30) / 2;
-            next.switches[place] = value % 2 == 1;
-            return next;
-        }
-        if offset < 0xe0 {
-            let place = (offset as usize - 0x40) / 4;
-            let old = next.delays[place];
-            next.delays[place] = delay_written(offset, old, value);
-            return next;
-        }
-        next
     }
 
     // What a read shows at an offset.
     #[tactic(auto, unfolding(crate::specs::Map::loaded))]
-    pub fn loaded(self, offset: u16) -> u16
-        ensures { result ≡ loaded self offset }
+    pub fn read(&self, offset: u16) -> u16
+        ensures { result ≡ loaded self.now offset }
     {
-        if offset == 0x0a {
-            return self.clock;
+        match offset {
+            0x0a => self.clock,
+            0x0e => status::word_of_bits(self.active),
+            0x10 | 0x12 => half_shown(offset, self.shown),
+            0x14 => u16::from(self.id),
+            0x20..0x2e => self.events[usize::from(offset - 0x20) / 2],
+            0x40..0xe0 => half_shown(offset, self.delays[usize::from(offset - 0x40) / 4]),
+            _ => 0,
         }
-        if offset == 0x0e {
-            let active = self.active;
-            return status::word_of_bits(active);
-        }
-        if offset == 0x10 {
-            return (self.shown / 65536 % 256) as u16;
-        }
-        if offset == 0x12 {
-            return (self.shown % 65536) as u16;
-        }
-        if offset == 0x14 {
-            return self.id as u16;
-        }
-        if offset < 0x20 {
-            return 0;
-        }
-        if offset < 0x2e {
-            let place = (offset as usize - 0x20) / 2;
-            let events = self.events;
-            return events[place];
-        }
-        if offset < 0x40 {
-            return 0;
-        }
-        if offset < 0xe0 {
-            let place = (offset as usize - 0x40) / 4;
-            let delays = self.delays;
-            return delay_shown(offset, delays[place]);
-        }
-        0
     }
 
     // Group End's share: the readback buffers switch, users with their bit set switch and the bits clear, the count is shown.
     #[tactic(auto, unfolding(crate::specs::Map::group_ended))]
-    pub fn group_ended(self, count: u32) -> Registers
-        ensures { result ≡ group_ended self count }
+    pub fn end_group(&mut self, count: u32)
+        ensures { self.new ≡ group_ended self.old count }
     {
-        let mut active = self.active;
-        let switches = self.switches;
-        let events = self.events;
-        let delays = self.delays;
-        active[8] = !active[8];
-        Registers {
-            clock: self.clock,
-            active: flipped(active, switches),
-            shown: count,
-            id: self.id,
-            events: events,
-            switches: [false; 8],
-            delays: delays,
-        }
+        self.active[READBACKS] = !self.active[READBACKS];
+        flip(&mut self.active, &self.switches);
+        self.shown = count;
+        self.switches = [false; 8];
     }
 }

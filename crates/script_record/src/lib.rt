@@ -1,281 +1,212 @@
-// One record of a call script (tests/CALLS.md, Records): its call, with the words it lends.
+// The records of a call script (tests/CALLS.md, Records): each one's call, with the words it lends, and the answer printed.
 #![tactic(auto)]
 
 use access_control::GuardedBoard;
-use call_script::script::Record;
-use call_script::{lent, pool, roles};
-use output::Block;
+use board_state::Board;
+use call_script::kind::Kind;
+use call_script::lent::Buffers;
+use call_script::pool::{self, Pools};
+use call_script::script::{Header, Record};
+use call_script::{lent, roles};
+use output::Printer;
 use permissions::BoardRights;
-use ramp::WordCount;
-use std::io::Stdout;
 
-// Opens a board over the first words of both pools, or as many of them as there are.
-pub fn open(
-    out: Stdout,
-    block: &mut Block,
-    n: u32,
-    m: u32,
-    rights: BoardRights,
-    setpoints: &[u32],
-    setpoint_length: usize,
-    readbacks: &[u32],
-    readback_length: usize,
-) -> GuardedBoard {
-    printed_calls::open(
-        out,
-        block,
-        n,
-        m,
+// What the records of a script work on.
+#[derive(Drop)]
+pub struct Session {
+    pub printer: Printer,
+    pub board: GuardedBoard,
+    pub pools: Pools,
+}
+
+// The board that a refused opening leaves: no depths, the rights that it named, all else as at an opening.
+fn closed(rights: BoardRights) -> GuardedBoard {
+    GuardedBoard {
+        board: Board::opened(0, 0),
         rights,
-        pool::front(setpoints, setpoint_length),
-        pool::front(readbacks, readback_length),
-    )
+    }
 }
 
-// Another opening: kind 0.
-fn open_again(
-    out: Stdout,
-    block: &mut Block,
-    setpoints: &[u32],
-    readbacks: &[u32],
-    record: Record,
-) -> GuardedBoard {
-    let setpoint_length = (record.z % 65536) as usize;
-    let readback_length = (record.z / 65536) as usize;
-    open(
-        out,
-        block,
-        record.x,
-        record.y,
-        roles::board_rights(record.channel, record.buffer),
-        setpoints,
-        setpoint_length,
-        readbacks,
-        readback_length,
-    )
-}
+impl Session {
+    // The pools filled and the board of the header opened. The answer is printed as record 0.
+    pub fn begin(printer: Printer, header: Header) -> Session {
+        let rights = roles::board_rights(0xff, 0x0f);
+        let mut session = Session {
+            printer,
+            board: closed(rights),
+            pools: Pools::filled(header.seed, header.mask),
+        };
+        session.printer.decimal(0);
+        session.open(
+            header.n,
+            header.m,
+            rights,
+            header.n as usize * 64,
+            header.m as usize * 8,
+        );
+        session.printer.end_line();
+        session
+    }
 
-fn write_setpoint(
-    out: Stdout,
-    block: &mut Block,
-    b: GuardedBoard,
-    words: &mut [u32],
-    record: Record,
-) -> GuardedBoard {
-    printed_calls::write_setpoint(
-        out,
-        block,
-        b,
-        roles::role(record.role),
-        words,
-        record.channel as u32,
-        record.x,
-        record.buffer as u32,
-        record.y,
-        record.z,
-    )
-}
+    // The record's line.
+    pub fn line(&mut self, number: u16, record: Record) {
+        self.printer.decimal(u64::from(number));
+        self.call(record);
+        self.printer.end_line();
+    }
 
-fn reply(
-    out: Stdout,
-    block: &mut Block,
-    b: GuardedBoard,
-    words: &mut [u32],
-    record: Record,
-) -> GuardedBoard {
-    let frame = record.z as u64 * 0x1_0000_0000 + record.y as u64;
-    printed_calls::reply(
-        out,
-        block,
-        b,
-        roles::role(record.role),
-        words,
-        record.channel as u32,
-        frame,
-    )
-}
+    fn call(&mut self, record: Record) {
+        match record.kind {
+            Kind::Open => self.open_again(record),
+            Kind::WriteRegister | Kind::WriteSetpoint | Kind::Reply | Kind::Ticks | Kind::Event =>
+                self.lent_call(record),
+            Kind::Retired | Kind::RetiredLength | Kind::Portion | Kind::PortionLength => {
+                self.buffer_call(record)
+            }
+            Kind::SetWord => self.set_word(record),
+            Kind::Ramp => self.ramp(record),
+            _ => self.plain_call(record),
+        }
+    }
 
-// A call that is lent words of one pool: kinds 1, 3, 6, 9, 10.
-fn lent_call(
-    out: Stdout,
-    block: &mut Block,
-    b: GuardedBoard,
-    words: &mut [u32],
-    record: Record,
-) -> GuardedBoard {
-    let role = roles::role(record.role);
-    let kind = record.kind;
-    match kind {
-        1 => printed_calls::write_register(
-            out,
-            block,
-            b,
-            role,
-            words,
+    // Opens a board over the first words of both pools, or as many of them as there are.
+    fn open(&mut self, n: u32, m: u32, rights: BoardRights, setpoints: usize, readbacks: usize) {
+        let opened = guarded_board::open(
+            n,
+            m,
+            rights,
+            pool::front(&self.pools.setpoints, setpoints),
+            pool::front(&self.pools.readbacks, readbacks),
+        );
+        self.board = opened.unwrap_or(closed(rights));
+        printed_calls::done(&mut self.printer, opened.map(|_board| ()));
+    }
+
+    fn open_again(&mut self, record: Record) {
+        self.open(
             record.x,
-            (record.y % 65536) as u16,
-        ),
-        3 => write_setpoint(out, block, b, words, record),
-        6 => reply(out, block, b, words, record),
-        9 => printed_ticks::ticks(out, block, b, role, words, record.x % 65536),
-        _ => printed_calls::event(out, block, b, role, words, (record.x % 256) as u8),
+            record.y,
+            roles::board_rights(record.channel, record.buffer),
+            (record.z % 65536) as usize,
+            (record.z / 65536) as usize,
+        );
     }
-}
 
-// Lends the record's words of whichever pool they are of.
-fn pool_call(
-    out: Stdout,
-    block: &mut Block,
-    b: GuardedBoard,
-    setpoints: &mut [u32],
-    readbacks: &mut [u32],
-    record: Record,
-) -> GuardedBoard {
-    let board = b.board;
-    let length = lent::length_of(record, board.n, board.m);
-    if lent::is_of_setpoints(record) {
-        return lent_call(out, block, b, pool::front_mut(setpoints, length), record);
-    }
-    lent_call(out, block, b, pool::front_mut(readbacks, length), record)
-}
-
-// Retired readbacks, portions and their lengths, which are lent two readback buffers: kinds 7, 8, 17, 18.
-fn buffer_call(out: Stdout, block: &mut Block, b: GuardedBoard, readbacks: &[u32], record: Record) {
-    let board = b.board;
-    let one = pool::part(
-        readbacks,
-        lent::first_buffer(record.lent, board.m, record.channel),
-    );
-    let two = pool::part(
-        readbacks,
-        lent::second_buffer(record.lent, board.m, record.channel),
-    );
-    let role = roles::role(record.role);
-    let number = record.channel as u32;
-    let kind = record.kind;
-    match kind {
-        7 => printed_calls::retired(out, block, b, role, number, one, two),
-        8 => printed_calls::retired_length(out, block, b, role, number, one, two),
-        17 => printed_downloads::portion(out, block, b, role, number, record.x, record.y, one, two),
-        _ => printed_downloads::portion_length(
-            out, block, b, role, number, record.x, record.y, one, two,
-        ),
-    }
-}
-
-// The answer of a record that makes no call and sets no word.
-fn none(out: Stdout, block: &mut Block) {
-    output::text(out, block, b" none");
-}
-
-// A call that is lent nothing: kinds 2, 4, 5, 11, 12, 15, 16, 19.
-fn plain_call(out: Stdout, block: &mut Block, b: GuardedBoard, record: Record) -> GuardedBoard {
-    let role = roles::role(record.role);
-    let kind = record.kind;
-    match kind {
-        2 => printed_calls::read_register(out, block, b, role, record.x),
-        4 => printed_calls::arm(out, block, b, role, record.channel as u32),
-        5 => printed_calls::disarm(out, block, b, role, record.channel as u32),
-        11 => printed_calls::change_user(out, block, b, role, record.x),
-        12 => {
-            printed_calls::interrupt_level(out, block, b, role);
-            b
-        }
-        15 => {
-            printed_readings::last_readings(out, block, b, role, record.channel as u32);
-            b
-        }
-        16 => printed_downloads::open(out, block, b, role, record.channel as u32),
-        19 => {
-            printed_readings::last_tick(out, block, b, role, record.channel as u32);
-            b
-        }
-        _ => {
-            none(out, block);
-            b
+    // A call that is lent words of one pool.
+    fn lent_call(&mut self, record: Record) {
+        let count = lent::length_of(record, self.board.board.n, self.board.board.m);
+        let words = self.pools.lent(lent::is_of_setpoints(record), count);
+        let (printer, g) = (&mut self.printer, &mut self.board);
+        let number = u32::from(record.channel);
+        match record.kind {
+            Kind::WriteRegister => {
+                let value = (record.y % 65536) as u16;
+                printed_calls::write_register(printer, g, record.role, words, record.x, value)
+            }
+            Kind::WriteSetpoint => printed_calls::done(
+                printer,
+                guarded_channels::write_setpoint(
+                    g,
+                    record.role,
+                    words,
+                    number,
+                    record.x,
+                    u32::from(record.buffer),
+                    record.y,
+                    record.z,
+                ),
+            ),
+            Kind::Reply => {
+                let frame = u64::from(record.z) * 0x1_0000_0000 + u64::from(record.y);
+                printed_calls::reply(printer, g, record.role, words, number, frame)
+            }
+            Kind::Ticks => {
+                printed_ticks::ticks(printer, g, record.role, words, record.x % 65536)
+            }
+            _ => {
+                let code = (record.x % 256) as u8;
+                printed_calls::event(printer, g, record.role, words, code)
+            }
         }
     }
-}
 
-// Whether the pool has the word that is to be set.
-fn set_in_pool(setpoints: &mut [u32], readbacks: &mut [u32], record: Record) -> bool {
-    if record.channel == 0 {
-        return pool::set(setpoints, record.x, record.y);
-    }
-    pool::set(readbacks, record.x, record.y)
-}
-
-// A word of a pool: kind 13.
-fn set_word(
-    out: Stdout,
-    block: &mut Block,
-    setpoints: &mut [u32],
-    readbacks: &mut [u32],
-    record: Record,
-) {
-    if set_in_pool(setpoints, readbacks, record) {
-        printed_calls::ok(out, block);
-    } else {
-        none(out, block);
-    }
-}
-
-// A ramp, which names no board: kind 14.
-fn ramp_call(
-    out: Stdout,
-    block: &mut Block,
-    setpoints: &mut [u32],
-    readbacks: &[u32],
-    record: Record,
-) {
-    let answer = script_ramp::call(setpoints, readbacks, record);
-    match answer {
-        WordCount::Words(count) => output::numbered(out, block, b" wrote ", count as u64),
-        WordCount::Refused(reason) => printed_calls::refused(out, block, reason),
-    }
-}
-
-// A record of any kind, and the board after it.
-fn call(
-    out: Stdout,
-    block: &mut Block,
-    b: GuardedBoard,
-    setpoints: &mut [u32],
-    readbacks: &mut [u32],
-    record: Record,
-) -> GuardedBoard {
-    let kind = record.kind;
-    match kind {
-        0 => open_again(out, block, setpoints, readbacks, record),
-        1 | 3 | 6 | 9 | 10 => pool_call(out, block, b, setpoints, readbacks, record),
-        7 | 8 | 17 | 18 => {
-            buffer_call(out, block, b, readbacks, record);
-            b
+    // Retired readbacks, portions and their lengths, which are lent two readback buffers.
+    fn buffer_call(&mut self, record: Record) {
+        let (first, second) = Buffers::from(record.lent).spans(self.board.board.m, record.channel);
+        let one = pool::part(&self.pools.readbacks, first);
+        let two = pool::part(&self.pools.readbacks, second);
+        let (printer, g) = (&mut self.printer, &self.board);
+        let number = u32::from(record.channel);
+        match record.kind {
+            Kind::Retired => printed_calls::part(
+                printer,
+                guarded_readings::retired(g, record.role, number, one, two),
+            ),
+            Kind::RetiredLength => printed_calls::length(
+                printer,
+                guarded_readings::retired_length(g, record.role, number, one, two),
+            ),
+            Kind::Portion => printed_downloads::portion(
+                printer,
+                g,
+                record.role,
+                number,
+                record.x,
+                record.y,
+                one,
+                two,
+            ),
+            _ => printed_downloads::portion_length(
+                printer,
+                g,
+                record.role,
+                number,
+                record.x,
+                record.y,
+                one,
+                two,
+            ),
         }
-        13 => {
-            set_word(out, block, setpoints, readbacks, record);
-            b
-        }
-        14 => {
-            ramp_call(out, block, setpoints, readbacks, record);
-            b
-        }
-        _ => plain_call(out, block, b, record),
     }
-}
 
-// The record's line.
-pub fn line(
-    out: Stdout,
-    block: &mut Block,
-    b: GuardedBoard,
-    setpoints: &mut [u32],
-    readbacks: &mut [u32],
-    record: Record,
-    number: u16,
-) -> GuardedBoard {
-    output::decimal(out, block, number as u64);
-    let board = call(out, block, b, setpoints, readbacks, record);
-    output::end_line(out, block);
-    board
+    // A call that is lent nothing, or none.
+    fn plain_call(&mut self, record: Record) {
+        let (printer, g) = (&mut self.printer, &mut self.board);
+        let role = record.role;
+        let number = u32::from(record.channel);
+        match record.kind {
+            Kind::ReadRegister => printed_calls::read_register(printer, g, role, record.x),
+            Kind::Arm => printed_calls::arm(printer, g, role, number),
+            Kind::Disarm => printed_calls::disarm(printer, g, role, number),
+            Kind::ChangeUser => printed_calls::change_user(printer, g, role, record.x),
+            Kind::InterruptLevel => printed_calls::interrupt_level(printer, g, role),
+            Kind::LastReadings => printed_readings::last_readings(printer, g, role, number),
+            Kind::OpenDownload => printed_downloads::open(printer, g, role, number),
+            Kind::LastTick => printed_readings::last_tick(printer, g, role, number),
+            _ => self.none(),
+        }
+    }
+
+    // The answer of a record that makes no call and sets no word.
+    fn none(&mut self) {
+        self.printer.text(b" none");
+    }
+
+    // A word of a pool.
+    fn set_word(&mut self, record: Record) {
+        if self.pools.set(record.channel, record.x, record.y) {
+            printed_calls::ok(&mut self.printer);
+        } else {
+            self.none();
+        }
+    }
+
+    // A ramp, which names no board.
+    fn ramp(&mut self, record: Record) {
+        printed_calls::answer(
+            &mut self.printer,
+            script_ramp::call(&mut self.pools, record),
+            |printer: &mut Printer, count: u32| printer.numbered(b" wrote ", u64::from(count)),
+        );
+    }
 }

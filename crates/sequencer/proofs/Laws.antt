@@ -11,7 +11,7 @@ use Rattle.sequencer.specs.declared.Kind.{Kind}
 use Rattle.sequencer.specs.declared.Kind.TheVariants as kind
 use Rattle.sequencer.specs.declared.Stage.TheVariants as stage
 use Rattle.sequencer.specs.declared.Sequencer.{Sequencer}
-use Rattle.sequencer.specs.declared.Transmission.TheVariants as transmission
+use Rattle.sequencer.specs.Transmissions as transmission
 use Rattle.sequencer.proofs.Steps as steps
 use Rattle.sequencer.proofs.Moves.{resume_taken, moved, counted_with}
 

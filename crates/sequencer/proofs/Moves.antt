@@ -5,18 +5,19 @@ use mathlib.Core.Bool.{Bool, true, false, cond, ◌&&◌}
 use native.Mathlib.Omega.{arith}
 use lib.Dec.{leb, ltb, eqb}
 use borrow.Author.Tests.{eq-eqb, ne_eqb, eqb-true, ltb-true, ltb-false}
+use Rattle.std.specs.declared.option.Option.{Option}
+use Rattle.std.specs.Option.{is_some, IsSome, IsNone}
 use Rattle.status.specs.Bits.{bit_at}
 use Rattle.sequencer.specs.Words.{kind_of}
-use Rattle.sequencer.specs.Playing.{opened, idled, armed, disarmed, started, loaded_resume, resumed_at, resumed, answered, group_ended, tagged, with_tag, shortfall, sent_next, sent_as, repeated, quiet, with_left, with_resume, advancing, repeating, resuming, ticked_at, ticked}
+use Rattle.sequencer.specs.Playing.{opened, idled, armed, disarmed, started, loaded_resume, resumed_at, resumed, answered, group_ended, tagged, with_tag, send_of, shortfall, sent_next, sent_as, repeated, quiet, with_left, with_resume, advancing, repeating, resuming, ticked_at, ticked}
 use Rattle.sequencer.specs.Runs.{count_after, missing_after, tag_after, tagged_after, as_number}
 use Rattle.sequencer.specs.declared.Kind.TheVariants as kind
 use Rattle.sequencer.specs.declared.Stage.{Stage}
 use Rattle.sequencer.specs.declared.Stage.TheVariants as stage
 use Rattle.sequencer.specs.declared.LastSend.{LastSend}
 use Rattle.sequencer.specs.declared.Sequencer.{Sequencer}
-use Rattle.sequencer.specs.declared.Transmission.{Transmission}
-use Rattle.sequencer.specs.declared.Transmission.TheVariants as transmission
-use Rattle.sequencer.specs.declared.Ticked.{Ticked}
+use Rattle.sequencer.specs.Transmissions.{Transmission, Ticked}
+use Rattle.sequencer.specs.Transmissions as transmission
 
 -- a resume is loaded, in its own pause, or changes nothing
 pub resumed_either : (P : Sequencer → Type 0) (s : Sequencer) (k delay : ℕ) → (s.stage ≡ stage.Paused k → P (loaded_resume s delay)) → P s
@@ -65,7 +66,7 @@ pub record Moved (s : Sequencer) (t : Ticked) : Type 0 where
   pub count : t.sequencer.count ≡ count_after t.transmission s.count
   pub missing : t.sequencer.missing ≡ missing_after t.transmission s.last s.missing
   pub tag : t.sequencer.tag ≡ tag_after t.transmission s.tag
-  pub last_tagged : t.sequencer.last.tagged ≡ tagged_after t.transmission s.tag s.last.tagged
+  pub last_tagged : (send_of t.sequencer.last).tagged ≡ tagged_after t.transmission s.tag (send_of s.last).tagged
   pub armed : t.sequencer.armed ≡ s.armed
 
 moved_if : (s : Sequencer) (e : Bool) (a b : Ticked) → Moved s a → Moved s b → Moved s (cond e a b)
@@ -159,19 +160,19 @@ counted_with transmission.Nothing a b c h = omega arith
 counted_with (transmission.Word word condition) a b c h = omega (arith, counted_by c (ltb c 0xffffff) refl (omega arith))
 
 -- 8. A send of Frame ID 15h lacks what its replies are short of six; one of another ID lacks nothing, nor does none.
-pub short_of_six : (l : LastSend) → l.sent ≡ true → l.id ≡ 0x15 → l.replies ≤ 6 → shortfall l + l.replies ≡ 6
+pub short_of_six : (l : Option LastSend) → IsSome l → (send_of l).id ≡ 0x15 → (send_of l).replies ≤ 6 → shortfall l + (send_of l).replies ≡ 6
 unfolding shortfall
-short_of_six l sent id few = rw (sent, eq-eqb l.id 0x15 id) (omega arith)
+short_of_six l sent id few = rw (sent, eq-eqb (send_of l).id 0x15 id) (omega arith)
 
-pub other_id : (l : LastSend) → (l.id ≡ 0x15 → ⊥) → shortfall l ≡ 0
+pub other_id : (l : Option LastSend) → ((send_of l).id ≡ 0x15 → ⊥) → shortfall l ≡ 0
 unfolding shortfall
-other_id l differs = rw (ne_eqb l.id 0x15 differs) (go l.sent)
+other_id l differs = rw (ne_eqb (send_of l).id 0x15 differs) (go (is_some l))
   where
-    go : (sent : Bool) → cond (sent && false) (6 - l.replies) 0 ≡ 0
+    go : (sent : Bool) → cond (sent && false) (6 - (send_of l).replies) 0 ≡ 0
     go true = refl
     go false = refl
 
-pub none_before : (l : LastSend) → l.sent ≡ false → shortfall l ≡ 0
+pub none_before : (l : Option LastSend) → IsNone l → shortfall l ≡ 0
 unfolding shortfall
 none_before l none = rw none
 

@@ -11,8 +11,8 @@ use Rattle.sequencer.specs.Runs.{next, ticks, sends, again, advances, holds, Bea
 use Rattle.sequencer.specs.declared.Stage.{Stage}
 use Rattle.sequencer.specs.declared.Stage.TheVariants as stage
 use Rattle.sequencer.specs.declared.Sequencer.{Sequencer}
-use Rattle.sequencer.specs.declared.Transmission.TheVariants as transmission
-use Rattle.sequencer.specs.declared.Ticked.{Ticked}
+use Rattle.sequencer.specs.Transmissions as transmission
+use Rattle.sequencer.specs.Transmissions.{Ticked}
 
 clash : {A : Type 0} → false ≡ true → A
 clash e = absurd (let z : ◌≡◌ {A = ℕ} 0 1 = cc in omega arith)

@@ -1,3 +1,4 @@
 pub mod Words
+pub mod Transmissions
 pub mod Playing
 pub mod Runs

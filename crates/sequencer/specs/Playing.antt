@@ -8,15 +8,15 @@
 --   "the setpoint count"                                  count
 -- Document 02, card 2: "The channel record carries the Frame ID of its last setpoint send and this count."   last.id, missing
 -- Card 6: "a tag not yet used"; "that send", the one that used it   tag; last.tagged
-use Rattle.std.specs.Prelude.{ℕ, ◌+◌, ◌-◌, min, Bool, true, false, cond, not, ◌&&◌, leb, ltb, eqb}
+use Rattle.std.specs.Prelude.{ℕ, ◌+◌, ◌-◌, min, Bool, true, false, cond, not, ◌&&◌, leb, ltb, eqb, Option, Some, None, is_some}
 use Rattle.sequencer.specs.Words.{at_end, kind_of, stage_after, index_after, condition_of, pauses, ends}
 use Rattle.sequencer.specs.declared.Kind.{Kind}
 use Rattle.sequencer.specs.declared.Stage.{Stage}
 use Rattle.sequencer.specs.declared.Stage.TheVariants as stage
 use Rattle.sequencer.specs.declared.LastSend.{LastSend}
 use Rattle.sequencer.specs.declared.Sequencer.{Sequencer}
-use Rattle.sequencer.specs.declared.Transmission.TheVariants as transmission
-use Rattle.sequencer.specs.declared.Ticked.{Ticked}
+use Rattle.sequencer.specs.Transmissions.{Ticked}
+use Rattle.sequencer.specs.Transmissions as transmission
 
 -- "idle or not"
 abbrev pub is_idle : Stage → Bool
@@ -63,9 +63,14 @@ is_ended (stage.Paused k) = false
 is_ended stage.Resuming = false
 is_ended stage.Ended = true
 
--- "the last send since idle (if any ..)": none, and then no Frame ID is looked at
-abbrev pub nothing_sent : LastSend
-nothing_sent = record { sent = false; first = false; paused = false; last = false; id = 0; tagged = false; replies = 0 }
+-- "the last send since idle (if any ..)": none
+abbrev pub nothing_sent : Option LastSend
+nothing_sent = None
+
+-- that send; where there is none, one that was none of first, paused, last and tagged, of Frame ID 0, which is not looked at, and with no replies after it
+abbrev pub send_of : Option LastSend → LastSend
+send_of None = record { first = false; paused = false; last = false; id = 0; tagged = false; replies = 0 }
+send_of (Some l) = l
 
 -- "channels disarmed", nothing under way, nothing counted
 abbrev pub opened : Sequencer
@@ -82,7 +87,7 @@ with_left s left = record { armed = s.armed; stage = s.stage; left = left; resum
 abbrev pub with_resume : Sequencer → ℕ → Sequencer
 with_resume s resume = record { armed = s.armed; stage = s.stage; left = s.left; resume = resume; index = s.index; word = s.word; last = s.last; count = s.count; missing = s.missing; tag = s.tag }
 
-abbrev pub with_last : Sequencer → LastSend → Sequencer
+abbrev pub with_last : Sequencer → Option LastSend → Sequencer
 with_last s last = record { armed = s.armed; stage = s.stage; left = s.left; resume = s.resume; index = s.index; word = s.word; last = last; count = s.count; missing = s.missing; tag = s.tag }
 
 abbrev pub with_count : Sequencer → ℕ → Sequencer
@@ -174,12 +179,28 @@ counted count = cond (ltb count 0xffffff) (count + 1) count
 
 -- document 02, card 2, of the setpoint send before this one since idle: "If that one carried Frame ID 15h and got fewer than six replies, the
 -- shortfall": how many of the six did not come; 0 where it carried another ID, got six, or there is none
-unfoldable pub shortfall : LastSend → ℕ
-shortfall l = cond (l.sent && eqb l.id 0x15) (6 - l.replies) 0
+unfoldable pub shortfall : Option LastSend → ℕ
+shortfall l = cond (is_some l && eqb (send_of l).id 0x15) (6 - (send_of l).replies) 0
 
 -- the shortfall "is added to the count. The count stays at 255."
 abbrev pub missing_with : ℕ → ℕ → ℕ
 missing_with missing more = min (missing + more) 255
+
+-- what any send changes, in the stage that it leaves the channel in; `first`: it is the first of the function's first word
+abbrev pub sent_in_stage : Sequencer → (first : Bool) → ℕ → ℕ → Sequencer
+sent_in_stage s first period id =
+    record {
+      armed = s.armed;
+      stage = s.stage;
+      left = period;
+      resume = s.resume;
+      index = s.index;
+      word = s.word;
+      last = Some (record { first = first; paused = is_paused s.stage; last = is_ended s.stage; id = id; tagged = s.tag; replies = 0 });
+      count = counted s.count;
+      missing = missing_with s.missing (shortfall s.last);
+      tag = false;
+    }
 
 -- the word due is sent, of this kind, with this Frame ID: "After a send the next follows one period later." A tag not yet used marks this send, and so
 -- "the send after it ends the mark", here and where a word is repeated.
@@ -193,7 +214,7 @@ sent_as s due period id k =
         resume = 0;
         index = index_after k s.index;
         word = due;
-        last = record { sent = true; first = is_starting s.stage; paused = pauses k; last = ends k; id = id; tagged = s.tag; replies = 0 };
+        last = Some (record { first = is_starting s.stage; paused = pauses k; last = ends k; id = id; tagged = s.tag; replies = 0 });
         count = counted s.count;
         missing = missing_with s.missing (shortfall s.last);
         tag = false;
@@ -216,7 +237,7 @@ repeated s period id =
         resume = s.resume;
         index = s.index;
         word = s.word;
-        last = record { sent = true; first = false; paused = is_paused s.stage; last = is_ended s.stage; id = id; tagged = s.tag; replies = 0 };
+        last = Some (record { first = false; paused = is_paused s.stage; last = is_ended s.stage; id = id; tagged = s.tag; replies = 0 });
         count = counted s.count;
         missing = missing_with s.missing (shortfall s.last);
         tag = false;
@@ -256,11 +277,16 @@ unfoldable pub ticked : Sequencer → ℕ → ℕ → ℕ → ℕ → Ticked
 ticked s due n period id = ticked_at s.stage s due n period id
 
 abbrev pub with_replies : LastSend → ℕ → LastSend
-with_replies l replies = record { sent = l.sent; first = l.first; paused = l.paused; last = l.last; id = l.id; tagged = l.tagged; replies = replies }
+with_replies l replies = record { first = l.first; paused = l.paused; last = l.last; id = l.id; tagged = l.tagged; replies = replies }
 
--- one more reply after the last send; six are counted
+-- with one more reply after it; six are counted
+abbrev pub with_next_reply : Option LastSend → Option LastSend
+with_next_reply None = None
+with_next_reply (Some l) = Some (with_replies l (cond (ltb l.replies 6) (l.replies + 1) l.replies))
+
+-- one more reply after the last send
 unfoldable pub answered : Sequencer → Sequencer
-answered s = with_last s (with_replies s.last (cond (ltb s.last.replies 6) (s.last.replies + 1) s.last.replies))
+answered s = with_last s (with_next_reply s.last)
 
 -- Group End: "idle; .. the setpoint count is .. cleared"; card 6: it drops "a tag not yet used"
 unfoldable pub group_ended : Sequencer → Sequencer

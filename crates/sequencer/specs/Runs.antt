@@ -1,6 +1,6 @@
 -- Document 01, 'A channel's life', its sends, pauses and resumes over time: ticks in a row and what each of them transmits, of which the laws in proofs/ speak.
 -- `words i` is the word at index i of the current user's active buffer, which does not change meanwhile; `n` the depth, `id` the Frame ID.
-use Rattle.std.specs.Prelude.{ℕ, zero, suc, ◌+◌, ◌*◌, ◌<◌, ◌≡◌, Bool, true, false}
+use Rattle.std.specs.Prelude.{ℕ, zero, suc, ◌+◌, ◌*◌, ◌<◌, ◌≡◌, Bool, true, false, Option, option_map}
 use Rattle.sequencer.specs.Words.{at_end, kind_of, stage_after, index_after, condition_of}
 use Rattle.sequencer.specs.Playing.{ticked, counted, shortfall, missing_with, with_last, with_tag}
 use Rattle.sequencer.specs.declared.Kind.{Kind}
@@ -8,9 +8,8 @@ use Rattle.sequencer.specs.declared.Stage.{Stage}
 use Rattle.sequencer.specs.declared.Stage.TheVariants as stage
 use Rattle.sequencer.specs.declared.LastSend.{LastSend}
 use Rattle.sequencer.specs.declared.Sequencer.{Sequencer}
-use Rattle.sequencer.specs.declared.Transmission.{Transmission}
-use Rattle.sequencer.specs.declared.Transmission.TheVariants as transmission
-use Rattle.sequencer.specs.declared.Ticked.{Ticked}
+use Rattle.sequencer.specs.Transmissions.{Transmission, Ticked}
+use Rattle.sequencer.specs.Transmissions as transmission
 
 -- one tick, handed the word at the index due
 abbrev pub next : (ℕ → ℕ) → ℕ → ℕ → ℕ → Sequencer → Ticked
@@ -85,7 +84,7 @@ count_after transmission.Nothing count = count
 count_after (transmission.Word word condition) count = counted count
 
 -- the count of missing readbacks after a tick that transmits this, `last` being the send before it
-abbrev pub missing_after : Transmission → LastSend → ℕ → ℕ
+abbrev pub missing_after : Transmission → Option LastSend → ℕ → ℕ
 missing_after transmission.Nothing last missing = missing
 missing_after (transmission.Word word condition) last missing = missing_with missing (shortfall last)
 
@@ -101,10 +100,10 @@ tagged_after (transmission.Word word condition) tag tagged = tag
 
 -- the same send without "the mark"; and the same state without it and without "a tag not yet used"
 abbrev pub unmarked : LastSend → LastSend
-unmarked l = record { sent = l.sent; first = l.first; paused = l.paused; last = l.last; id = l.id; tagged = false; replies = l.replies }
+unmarked l = record { first = l.first; paused = l.paused; last = l.last; id = l.id; tagged = false; replies = l.replies }
 
 abbrev pub untagged : Sequencer → Sequencer
-untagged s = with_tag (with_last s (unmarked s.last)) false
+untagged s = with_tag (with_last s (option_map unmarked s.last)) false
 
 -- how many words a tick that transmits this sends
 abbrev pub as_number : Transmission → ℕ

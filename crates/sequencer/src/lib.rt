@@ -3,25 +3,29 @@
 // The sequencer knows no register and no memory: the word due, the period and the Frame ID are handed in on each tick.
 #![tactic(auto)]
 
-pub mod stages;
 mod ticks;
 mod words;
 
 ghost use Rattle.std.specs.Prelude.{◌≡◌, ◌≤◌};
-ghost use Rattle.sequencer.specs.Playing.{opened, unfinished, nothing_sent, shortfall, missing_with, idled, armed, disarmed, started, resumed, answered, group_ended, tagged, with_missing};
+ghost use Rattle.sequencer.specs.Playing.{opened, unfinished, send_of, shortfall, missing_with, idled, armed, disarmed, started, resumed, answered, group_ended, tagged, with_missing};
 
-// The Frame ID whose missing replies are counted: a supply answers it with six readbacks.
+use status::Condition;
+
+// The Frame ID whose missing replies are counted.
 const READBACK_ID: u8 = 0x15;
 
+// A supply answers that Frame ID with so many readbacks.
+const READBACKS: u8 = 6;
+
 // What the channel is doing.
-#[derive(Clone, Copy)]
+#[derive(Clone, Copy, Debug, PartialEq, Eq)]
 pub enum Stage {
     Idle,
     // The countdown to the first word.
     Starting,
     // Plain words, one after the other.
     Running,
-    // A word with a pause is repeated: 1-4, and 0 for the VME pause.
+    // A word with a pause is repeated: document 01's pause 1-4 by its number, from which its event and its bit follow, and 0 for the VME pause.
     Paused(u8),
     // The pause is resumed: its delay, then the silent ticks.
     Resuming,
@@ -30,17 +34,16 @@ pub enum Stage {
 }
 
 // What a setpoint word asks for: nothing, a pause (0 the VME pause), the end.
-#[derive(Clone, Copy)]
+#[derive(Clone, Copy, Debug, PartialEq, Eq)]
 pub enum Kind {
     Plain,
     Pause(u8),
     Last,
 }
 
-// The last send since idle, if any, what it was, the Frame ID that it carried, whether it used a tag, and the replies after it.
-#[derive(Clone, Copy)]
+// A send: what it was, the Frame ID that it carried, whether it used a tag, and the replies after it.
+#[derive(Clone, Copy, Debug, Default, PartialEq, Eq)]
 pub struct LastSend {
-    pub sent: bool,
     pub first: bool,
     pub paused: bool,
     pub last: bool,
@@ -49,7 +52,7 @@ pub struct LastSend {
     pub replies: u8,
 }
 
-#[derive(Clone, Copy)]
+#[derive(Clone, Copy, Debug, PartialEq, Eq)]
 pub struct Sequencer {
     pub armed: bool,
     pub stage: Stage,
@@ -61,7 +64,8 @@ pub struct Sequencer {
     pub index: u32,
     // The word that is repeated.
     pub word: u32,
-    pub last: LastSend,
+    // The last send since idle, if any.
+    pub last: Option<LastSend>,
     // The setpoint count.
     pub count: u32,
     // The count of missing readbacks.
@@ -70,61 +74,20 @@ pub struct Sequencer {
     pub tag: bool,
 }
 
-// What a tick sends: nothing, or a word, with the status bit that the word latches (0: none).
-#[derive(Clone, Copy)]
-pub enum Transmission {
-    Nothing,
-    Word { word: u32, condition: u8 },
+// What a tick is handed: the word at the index due, the depth of its buffer, the clock's period, and the Frame ID that a send carries.
+#[derive(Clone, Copy, Debug, PartialEq, Eq)]
+pub struct Clock {
+    pub due: u32,
+    pub depth: u32,
+    pub period: u32,
+    pub id: u8,
 }
 
-#[derive(Clone, Copy)]
-pub struct Ticked {
-    pub sequencer: Sequencer,
-    pub transmission: Transmission,
-}
-
-// A count of missing readbacks with more of them.
-fn add_missing(count: u8, more: u8) -> u8
-    ensures { result ≡ missing_with count more }
-{
-    if count < 255 - more {
-        return count + more;
-    }
-    255
-}
-
-impl LastSend {
-    pub fn nothing() -> LastSend
-        ensures { result ≡ nothing_sent }
-    {
-        LastSend {
-            sent: false,
-            first: false,
-            paused: false,
-            last: false,
-            id: 0,
-            tagged: false,
-            replies: 0,
-        }
-    }
-
-    // How many of the six replies are missing after a send of Frame ID 15h; none after another send, or no send.
-    #[tactic(auto, unfolding(crate::specs::Playing::shortfall))]
-    pub fn shortfall(self) -> u8
-        ensures { result ≡ shortfall self }
-    {
-        if !self.sent {
-            return 0;
-        }
-        if self.id != READBACK_ID {
-            return 0;
-        }
-        let replies = self.replies;
-        if replies < 6 {
-            return 6 - replies;
-        }
-        0
-    }
+// A word that a tick sends, with the condition that it latches.
+#[derive(Clone, Copy, Debug, PartialEq, Eq)]
+pub struct Sent {
+    pub word: u32,
+    pub condition: Option<Condition>,
 }
 
 impl Sequencer {
@@ -138,168 +101,139 @@ impl Sequencer {
             resume: 0,
             index: 0,
             word: 0,
-            last: LastSend::nothing(),
+            last: None,
             count: 0,
             missing: 0,
             tag: false,
         }
     }
 
-    // Whether idling now ends a function early: under way, and its last word not sent.
-    pub fn unfinished(self) -> bool
-        ensures { result ≡ unfinished self }
+    // The last send; where there is none, one of which nothing holds.
+    pub fn last_send(&self) -> LastSend
+        ensures { result ≡ send_of self.now.last }
     {
-        let stage = self.stage;
-        if stages::is_idle(stage) {
-            return false;
+        self.last.unwrap_or_default()
+    }
+
+    // How many of the six replies are missing after a send of Frame ID 15h; none after another send, or no send.
+    #[tactic(auto, unfolding(crate::specs::Playing::shortfall))]
+    pub fn shortfall(&self) -> u8
+        ensures { result ≡ shortfall self.now.last }
+    {
+        match self.last {
+            Some(send) if send.id == READBACK_ID => READBACKS.saturating_sub(send.replies),
+            _ => 0,
         }
-        !stages::is_ended(stage)
+    }
+
+    // Whether idling now ends a function early: under way, and its last word not sent.
+    pub fn is_unfinished(&self) -> bool
+        ensures { result ≡ unfinished self.now }
+    {
+        !matches!(self.stage, Stage::Idle | Stage::Ended)
     }
 
     // The function dropped; armed or not, both counts, and a tag not yet used stay.
     #[tactic(auto, unfolding(crate::specs::Playing::idled))]
-    pub fn idled(self) -> Sequencer
-        ensures { result ≡ idled self }
+    pub fn idle(&mut self)
+        ensures { self.new ≡ idled self.old }
     {
-        Sequencer {
+        *self = Sequencer {
             armed: self.armed,
-            stage: Stage::Idle,
-            left: 0,
-            resume: 0,
-            index: 0,
-            word: 0,
-            last: LastSend::nothing(),
             count: self.count,
             missing: self.missing,
             tag: self.tag,
-        }
+            ..Sequencer::opened()
+        };
     }
 
     #[tactic(auto, unfolding(crate::specs::Playing::armed))]
-    pub fn armed(self) -> Sequencer
-        ensures { result ≡ armed self }
+    pub fn arm(&mut self)
+        ensures { self.new ≡ armed self.old }
     {
-        let mut next = self;
-        next.armed = true;
-        next
+        self.armed = true;
     }
 
     #[tactic(auto, unfolding(crate::specs::Playing::idled, crate::specs::Playing::disarmed))]
-    pub fn disarmed(self) -> Sequencer
-        ensures { result ≡ disarmed self }
+    pub fn disarm(&mut self)
+        ensures { self.new ≡ disarmed self.old }
     {
-        let mut next = self.idled();
-        next.armed = false;
-        next.tag = false;
-        next
+        self.idle();
+        self.armed = false;
+        self.tag = false;
     }
 
     // Start, with a delay, of a channel that is armed.
     #[tactic(auto, unfolding(crate::specs::Playing::started))]
-    pub fn started(self, delay: u32) -> Sequencer
-        ensures { result ≡ started self delay }
+    pub fn start(&mut self, delay: u32)
+        ensures { self.new ≡ started self.old delay }
     {
-        let last = self.last;
-        Sequencer {
-            armed: self.armed,
-            stage: Stage::Starting,
-            left: delay as u64 + 10,
-            resume: 0,
-            index: 0,
-            word: 0,
-            last: last,
-            count: self.count,
-            missing: self.missing,
-            tag: self.tag,
-        }
+        self.stage = Stage::Starting;
+        self.left = u64::from(delay) + 10;
+        self.resume = 0;
+        self.index = 0;
+        self.word = 0;
     }
 
     // Resume of a pause (0 the VME pause), with a delay; nothing where the channel is not in that pause.
     #[tactic(auto, unfolding(crate::specs::Playing::resumed))]
-    pub fn resumed(self, pause: u8, delay: u32) -> Sequencer
-        ensures { result ≡ resumed self pause delay }
+    pub fn resume(&mut self, pause: u8, delay: u32)
+        ensures { self.new ≡ resumed self.old pause delay }
     {
-        let stage = self.stage;
-        match stage {
-            Stage::Idle => self,
-            Stage::Starting => self,
-            Stage::Running => self,
-            Stage::Paused(current) => {
-                if current == pause {
-                    let last = self.last;
-                    return Sequencer {
-                        armed: self.armed,
-                        stage: Stage::Resuming,
-                        left: self.left,
-                        resume: delay as u64 + 10,
-                        index: self.index,
-                        word: self.word,
-                        last: last,
-                        count: self.count,
-                        missing: self.missing,
-                        tag: self.tag,
-                    };
-                }
-                self
-            }
-            Stage::Resuming => self,
-            Stage::Ended => self,
+        if self.stage == Stage::Paused(pause) {
+            self.stage = Stage::Resuming;
+            self.resume = u64::from(delay) + 10;
         }
     }
 
     // A reply after the last send, kept or lost.
     #[tactic(auto, unfolding(crate::specs::Playing::answered))]
-    pub fn answered(self) -> Sequencer
-        ensures { result ≡ answered self }
+    pub fn count_reply(&mut self)
+        ensures { self.new ≡ answered self.old }
     {
-        let mut next = self;
-        let mut last = next.last;
-        let replies = last.replies;
-        if replies < 6 {
-            last.replies = replies + 1;
+        if let Some(last) = &mut self.last {
+            if last.replies < READBACKS {
+                last.replies += 1;
+            }
         }
-        next.last = last;
-        next
     }
 
     // The count of missing readbacks cleared.
-    pub fn missing_cleared(self) -> Sequencer
-        ensures { result ≡ with_missing self 0 }
+    pub fn clear_missing(&mut self)
+        ensures { self.new ≡ with_missing self.old 0 }
     {
-        let mut next = self;
-        next.missing = 0;
-        next
+        self.missing = 0;
+    }
+
+    fn add_missing(&mut self, more: u8)
+        ensures { self.new ≡ with_missing self.old (missing_with self.old.missing more) }
+    {
+        self.missing = self.missing.saturating_add(more);
     }
 
     // With a count from before added to the missing readbacks counted here; the count from before fits its byte.
-    pub fn missing_after(self, before: u8) -> Sequencer
-        ensures { (result ≡ with_missing self (missing_with before self.missing)) × (before ≤ 255) }
+    pub fn add_missing_before(&mut self, before: u8)
+        ensures next { self.new ≡ with_missing self.old (missing_with before self.old.missing) }
+        ensures fits { before ≤ 255 }
     {
-        let mut next = self;
-        next.missing = add_missing(before, self.missing);
-        next
+        self.add_missing(before);
     }
 
     // Group End's share: the function and a tag not yet used dropped, the setpoint count cleared.
     #[tactic(auto, unfolding(crate::specs::Playing::idled, crate::specs::Playing::group_ended))]
-    pub fn group_ended(self) -> Sequencer
-        ensures { result ≡ group_ended self }
+    pub fn end_group(&mut self)
+        ensures { self.new ≡ group_ended self.old }
     {
-        let mut next = self.idled();
-        next.count = 0;
-        next.tag = false;
-        next
+        self.idle();
+        self.count = 0;
+        self.tag = false;
     }
 
     // A tag for the next send, of a channel that is armed.
     #[tactic(auto, unfolding(crate::specs::Playing::tagged))]
-    pub fn tagged(self) -> Sequencer
-        ensures { result ≡ tagged self }
+    pub fn tag(&mut self)
+        ensures { self.new ≡ tagged self.old }
     {
-        let mut next = self;
-        if next.armed {
-            next.tag = true;
-        }
-        next
+        self.tag |= self.armed;
     }
 }

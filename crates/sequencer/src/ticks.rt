@@ -1,157 +1,118 @@
 // One tick: what is sent on it, and what is counted down.
 ghost use Rattle.std.specs.Prelude.{◌≡◌};
-ghost use Rattle.sequencer.specs.Playing.{counted, sent_next, repeated, quiet, advancing, repeating, resuming, ticked};
+ghost use Rattle.sequencer.specs.Playing.{sent_in_stage, sent_next, repeated, advancing, repeating, resuming, ticked};
+ghost use Rattle.sequencer.specs.Transmissions.{transmission_of};
 
-use crate::{LastSend, Sequencer, Stage, Ticked, Transmission, add_missing, stages, words};
-
-// The setpoint count with one more send.
-fn count_up(count: u32) -> u32
-    ensures { result ≡ counted count }
-{
-    if count < 0xff_ffff { count + 1 } else { count }
-}
-
-// A tick on which nothing leaves.
-fn quiet(sequencer: Sequencer) -> Ticked
-    ensures { result ≡ quiet sequencer }
-{
-    Ticked {
-        sequencer: sequencer,
-        transmission: Transmission::Nothing,
-    }
-}
+use crate::{Clock, Kind, LastSend, Sent, Sequencer, Stage, words};
 
 impl Sequencer {
+    // What any send changes, `first` the first word's: it is the last send now, both counts take it, it uses the tag, and the next follows a period later.
+    fn count_send(&mut self, first: bool, clock: &Clock)
+        ensures { self.new ≡ sent_in_stage self.old first clock.now.period clock.now.id }
+    {
+        let shortfall = self.shortfall();
+        self.add_missing(shortfall);
+        self.last = Some(LastSend {
+            first,
+            paused: matches!(self.stage, Stage::Paused(_) | Stage::Resuming),
+            last: self.stage == Stage::Ended,
+            id: clock.id,
+            tagged: self.tag,
+            replies: 0,
+        });
+        self.tag = false;
+        if self.count < 0xff_ffff {
+            self.count += 1;
+        }
+        self.left = u64::from(clock.period);
+    }
+
     // The word due is sent.
     #[tactic(auto, unfolding(crate::specs::Playing::sent_next, crate::specs::Playing::sent_as))]
-    fn send_next(self, due: u32, n: u32, period: u32, id: u8) -> Ticked
-        ensures { result ≡ sent_next self due n period id }
+    fn send_next(&mut self, clock: &Clock) -> Option<Sent>
+        ensures next { self.new ≡ (sent_next self.old clock.now.due clock.now.depth clock.now.period clock.now.id).sequencer }
+        ensures sent { transmission_of result ≡ (sent_next self.old clock.now.due clock.now.depth clock.now.period clock.now.id).transmission }
     {
-        let stage = self.stage;
-        let index = self.index;
-        let last = self.last;
-        let kind = words::classify(due, words::at_end(n, index));
-        Ticked {
-            sequencer: Sequencer {
-                armed: self.armed,
-                stage: words::stage_after(kind),
-                left: period as u64,
-                resume: 0,
-                index: words::index_after(kind, index),
-                word: due,
-                last: LastSend {
-                    sent: true,
-                    first: stages::is_starting(stage),
-                    paused: words::pauses(kind),
-                    last: words::ends(kind),
-                    id: id,
-                    tagged: self.tag,
-                    replies: 0,
-                },
-                count: count_up(self.count),
-                missing: add_missing(self.missing, last.shortfall()),
-                tag: false,
-            },
-            transmission: Transmission::Word {
-                word: due,
-                condition: words::condition_of(kind),
-            },
-        }
+        let kind = Kind::of(clock.due, words::at_end(clock.depth, self.index));
+        let first = self.stage == Stage::Starting;
+        self.stage = kind.stage_after();
+        self.resume = 0;
+        self.index = kind.index_after(self.index);
+        self.word = clock.due;
+        self.count_send(first, clock);
+        Some(Sent {
+            word: clock.due,
+            condition: kind.condition(),
+        })
     }
 
     // The kept word is sent again.
     #[tactic(auto, unfolding(crate::specs::Playing::repeated))]
-    fn repeat(self, period: u32, id: u8) -> Ticked
-        ensures { result ≡ repeated self period id }
+    fn repeat(&mut self, clock: &Clock) -> Option<Sent>
+        ensures next { self.new ≡ (repeated self.old clock.now.period clock.now.id).sequencer }
+        ensures sent { transmission_of result ≡ (repeated self.old clock.now.period clock.now.id).transmission }
     {
-        let stage = self.stage;
-        let last = self.last;
-        Ticked {
-            sequencer: Sequencer {
-                armed: self.armed,
-                stage: stage,
-                left: period as u64,
-                resume: self.resume,
-                index: self.index,
-                word: self.word,
-                last: LastSend {
-                    sent: true,
-                    first: false,
-                    paused: stages::is_paused(stage),
-                    last: stages::is_ended(stage),
-                    id: id,
-                    tagged: self.tag,
-                    replies: 0,
-                },
-                count: count_up(self.count),
-                missing: add_missing(self.missing, last.shortfall()),
-                tag: false,
-            },
-            transmission: Transmission::Word {
-                word: self.word,
-                condition: 0,
-            },
-        }
+        self.count_send(false, clock);
+        Some(Sent {
+            word: self.word,
+            condition: None,
+        })
     }
 
     // A tick towards the word due.
     #[tactic(auto, unfolding(crate::specs::Playing::advancing))]
-    fn advance(self, due: u32, n: u32, period: u32, id: u8) -> Ticked
-        ensures { result ≡ advancing self due n period id }
+    fn advance(&mut self, clock: &Clock) -> Option<Sent>
+        ensures next { self.new ≡ (advancing self.old clock.now.due clock.now.depth clock.now.period clock.now.id).sequencer }
+        ensures sent { transmission_of result ≡ (advancing self.old clock.now.due clock.now.depth clock.now.period clock.now.id).transmission }
     {
-        let left = self.left;
-        if left <= 1 {
-            return self.send_next(due, n, period, id);
+        if self.left <= 1 {
+            return self.send_next(clock);
         }
-        let mut next = self;
-        next.left = left - 1;
-        quiet(next)
+        self.left -= 1;
+        None
     }
 
     // A tick towards the next repeat.
     #[tactic(auto, unfolding(crate::specs::Playing::repeating))]
-    fn hold(self, period: u32, id: u8) -> Ticked
-        ensures { result ≡ repeating self period id }
+    fn hold(&mut self, clock: &Clock) -> Option<Sent>
+        ensures next { self.new ≡ (repeating self.old clock.now.period clock.now.id).sequencer }
+        ensures sent { transmission_of result ≡ (repeating self.old clock.now.period clock.now.id).transmission }
     {
-        let left = self.left;
-        if left <= 1 {
-            return self.repeat(period, id);
+        if self.left <= 1 {
+            return self.repeat(clock);
         }
-        let mut next = self;
-        next.left = left - 1;
-        quiet(next)
+        self.left -= 1;
+        None
     }
 
     // A tick of a resume: repeats through the delay, then nine silent ticks, then the word due.
     #[tactic(auto, unfolding(crate::specs::Playing::resuming))]
-    fn resume_tick(self, due: u32, n: u32, period: u32, id: u8) -> Ticked
-        ensures { result ≡ resuming self due n period id }
+    fn resume_tick(&mut self, clock: &Clock) -> Option<Sent>
+        ensures next { self.new ≡ (resuming self.old clock.now.due clock.now.depth clock.now.period clock.now.id).sequencer }
+        ensures sent { transmission_of result ≡ (resuming self.old clock.now.due clock.now.depth clock.now.period clock.now.id).transmission }
     {
-        let resume = self.resume;
-        if resume <= 1 {
-            return self.send_next(due, n, period, id);
+        if self.resume <= 1 {
+            return self.send_next(clock);
         }
-        let mut next = self;
-        next.resume = resume - 1;
-        if resume <= 10 {
-            return quiet(next);
+        self.resume -= 1;
+        if self.resume < 10 {
+            None
+        } else {
+            self.hold(clock)
         }
-        next.hold(period, id)
     }
 
-    // One tick. `due` is the word at the index due, `n` the depth of its buffer, `id` the Frame ID that a send carries.
+    // One tick, of which the answer is the word sent.
     #[tactic(auto, unfolding(crate::specs::Playing::ticked))]
-    pub fn tick(self, due: u32, n: u32, period: u32, id: u8) -> Ticked
-        ensures { result ≡ ticked self due n period id }
+    pub fn tick(&mut self, clock: &Clock) -> Option<Sent>
+        ensures next { self.new ≡ (ticked self.old clock.now.due clock.now.depth clock.now.period clock.now.id).sequencer }
+        ensures sent { transmission_of result ≡ (ticked self.old clock.now.due clock.now.depth clock.now.period clock.now.id).transmission }
     {
-        let stage = self.stage;
-        match stage {
-            Stage::Idle => quiet(self),
-            Stage::Starting => self.advance(due, n, period, id),
-            Stage::Running => self.advance(due, n, period, id),
-            Stage::Paused(_) => self.hold(period, id),
-            Stage::Resuming => self.resume_tick(due, n, period, id),
-            Stage::Ended => self.hold(period, id),
+        match self.stage {
+            Stage::Idle => None,
+            Stage::Starting | Stage::Running => self.advance(clock),
+            Stage::Paused(_) | Stage::Ended => self.hold(clock),
+            Stage::Resuming => self.resume_tick(clock),
         }
     }
 }

@@ -1,5 +1,5 @@
 -- What the definitions of status mean, bit by bit: a status word shows the latched bits at their places; Interrupt Enable drops D3 and keeps the rest; conditions latch in
--- any order, and once. Assumes nothing.
+-- any order, and once; D0 is no condition's. Assumes nothing.
 use Prim.Native.Nat.{ℕ, zero, suc, ◌+◌, ◌*◌, ◌/◌, ◌%◌}
 use mathlib.Core.Path.{◌≡◌, refl, sym, ap, ◌∙◌}
 use mathlib.Core.List.{List, [], ◌∷◌}
@@ -7,10 +7,13 @@ use mathlib.Core.Bool.{Bool, true, false, ◌||◌}
 use native.Mathlib.Omega.{arith}
 use native.Mathlib.Nat.{pow-succ', zero-div, div-div-eq-div-mul}
 use lib.ListN.{get_or, set}
+use lib.Dec.{eqb}
 use lib.Pow.{shr-shr}
 use borrow.Author.Tests.{eq-eqb, ne_eqb}
 use Rattle.status.specs.Bits.{bit_at, bit_of, word_of_bits}
-use Rattle.status.specs.Latching.{latched_in, latched, kept_enable}
+use Rattle.status.specs.Latching.{condition_bit, latched_in, latched, kept_enable}
+use Rattle.status.specs.declared.Condition.{Condition}
+use Rattle.status.specs.declared.Condition.TheVariants as condition
 use Rattle.status.specs.declared.Latches.{Latches}
 use Rattle.status.specs.declared.Status.{Status}
 use Rattle.status.proofs.Words.{bit_small}
@@ -85,3 +88,13 @@ in_twice l i a = rw (set_twice l.bits i, or_twice a l.main)
 pub latched_twice : (s : Status) (i : ℕ) → latched (latched s i) i ≡ latched s i
 unfolding latched
 latched_twice s i = rw (in_twice s.interrupt i (bit_at s.enable i), in_twice s.polling i (bit_at s.enable i))
+
+-- a condition has another bit than D0
+pub condition_some : (c : Condition) → eqb (condition_bit c) 0 ≡ false
+condition_some condition.Run = refl
+condition_some condition.EndOfFunction = refl
+condition_some condition.GroupEnd = refl
+condition_some condition.EarlyEnd = refl
+condition_some (condition.Pause k) = ne_eqb (7 + k) 0 (omega arith)
+condition_some condition.MissingReadback = refl
+condition_some condition.CrcError = refl

@@ -1,6 +1,8 @@
 -- Document 01, 'Register map' and 'A channel's life': the channel's status in two copies, 02 Interrupt Status and 04 Polling Status.
 use Rattle.std.specs.Prelude.{ℕ, ◌+◌, ◌*◌, ◌/◌, ◌%◌, Bool, true, false, ◌||◌, set, replicate}
 use Rattle.status.specs.Bits.{bit_at}
+use Rattle.status.specs.declared.Condition.{Condition}
+use Rattle.status.specs.declared.Condition.TheVariants as condition
 use Rattle.status.specs.declared.Latches.{Latches}
 use Rattle.status.specs.declared.Status.{Status}
 
@@ -27,6 +29,16 @@ missing_readback = 4
 
 abbrev pub crc_error : ℕ
 crc_error = 2
+
+-- the bit of a condition
+abbrev pub condition_bit : Condition → ℕ
+condition_bit condition.Run = run
+condition_bit condition.EndOfFunction = end_of_function
+condition_bit condition.GroupEnd = group_end
+condition_bit condition.EarlyEnd = early_end
+condition_bit (condition.Pause k) = pause_bit k
+condition_bit condition.MissingReadback = missing_readback
+condition_bit condition.CrcError = crc_error
 
 -- one copy: nothing latched
 abbrev pub none : Latches

@@ -3,32 +3,28 @@
 
 ghost use Rattle.std.specs.Prelude.{◌≡◌, ◌+◌, ◌*◌, ◌<◌, ◌≤◌};
 ghost use Rattle.status.specs.Bits.{bit_at, bit_of, word_of_bits};
-ghost use Rattle.status.specs.Latching.{none, latched_in, cleared_in, taken_in, opened, latched, kept_enable, enabled, reset};
+ghost use Rattle.status.specs.Latching.{none, latched_in, cleared_in, taken_in, opened, condition_bit, latched, kept_enable, enabled, reset};
 
-// Bits of the channel status.
-pub const RUN: u8 = 15;
-
-pub const END_OF_FUNCTION: u8 = 14;
-
-pub const GROUP_END: u8 = 13;
-
-pub const EARLY_END: u8 = 12;
-
-// Pause k, from 1 to 4, has bit VME_PAUSE + k.
-pub const VME_PAUSE: u8 = 7;
-
-pub const MISSING_READBACK: u8 = 4;
-
-pub const CRC_ERROR: u8 = 2;
+// What the channel status latches as it happens: pauses 1 to 4, and 0 for the VME pause.
+#[derive(Clone, Copy, Debug, PartialEq, Eq)]
+pub enum Condition {
+    Run,
+    EndOfFunction,
+    GroupEnd,
+    EarlyEnd,
+    Pause(u8),
+    MissingReadback,
+    CrcError,
+}
 
 // One copy of the status (Interrupt or Polling): the latched conditions, and the channel's bit in Main's status of the same name.
-#[derive(Clone, Copy)]
+#[derive(Clone, Copy, Debug, PartialEq, Eq)]
 pub struct Latches {
     pub bits: [bool; 16],
     pub main: bool,
 }
 
-#[derive(Clone, Copy)]
+#[derive(Clone, Copy, Debug, PartialEq, Eq)]
 pub struct Status {
     pub enable: u16,
     pub interrupt: Latches,
@@ -36,51 +32,55 @@ pub struct Status {
 }
 
 // Whether a bit of a word is set.
-pub fn is_set(word: u16, bit: u8) -> bool
+pub fn is_set(word: u16, bit: u32) -> bool
     ensures { result ≡ bit_at word bit }
 {
-    if bit < 16 {
-        return (word >> bit) % 2 == 1;
-    }
-    false
+    bit < 16 && (word >> bit) & 1 == 1
 }
 
 // A bit at its weight.
 pub fn weigh(bit: bool, weight: u32) -> u32
-    ensures { (result ≡ bit_of bit * weight) × (result ≤ weight) }
+    ensures weighed { result ≡ bit_of bit * weight }
+    ensures bound { result ≤ weight }
 {
-    if bit {
-        return weight;
-    }
-    0
-}
-
-// A word doubled, with a bit at its end.
-fn pushed(word: u32, bit: bool) -> u32
-    requires { word < 65536 }
-    ensures { result ≡ bit_of bit + 2 * word }
-{
-    weigh(bit, 1) + 2 * word
+    if bit { weight } else { 0 }
 }
 
 // The word of sixteen bits, the first of which is D0.
+#[tactic(auto, using(crate::proofs::Words::below_none, crate::proofs::Words::below_push, crate::proofs::Words::below_end))]
 pub fn word_of_bits(bits: [bool; 16]) -> u16
     ensures { result ≡ word_of_bits bits }
 {
-    let mut i: usize = 16;
-    let mut word: u32 = 0;
-    while 0 < i {
-        i = i - 1;
-        word = pushed(word, bits[i]);
+    let mut word = 0;
+    for &bit in bits.iter().rev() {
+        word = 2 * word + u16::from(bit);
     }
-    word as u16
+    word
 }
 
 // What an enable register keeps of a word written: D3 is dropped.
+#[tactic(auto, using(crate::proofs::Words::without_bit_3))]
 pub fn kept_enable(value: u16) -> u16
     ensures { result ≡ kept_enable value }
 {
-    value / 16 * 16 + value % 8
+    value & 0xfff7
+}
+
+impl Condition {
+    // Its bit.
+    fn bit(self) -> u32
+        ensures { result ≡ condition_bit self }
+    {
+        match self {
+            Condition::Run => 15,
+            Condition::EndOfFunction => 14,
+            Condition::GroupEnd => 13,
+            Condition::EarlyEnd => 12,
+            Condition::Pause(pause) => 7 + u32::from(pause),
+            Condition::MissingReadback => 4,
+            Condition::CrcError => 2,
+        }
+    }
 }
 
 impl Latches {
@@ -95,36 +95,30 @@ impl Latches {
     }
 
     // A condition happens: its bit, and the Main bit if it is enabled.
-    pub fn latched(self, bit: u8, on: bool) -> Latches
-        ensures { result ≡ latched_in self bit on }
+    pub fn latch(&mut self, bit: u32, on: bool)
+        ensures { self.new ≡ latched_in self.old bit on }
     {
-        let mut next = self;
+        // By index: after a write through `get_mut` the proof knows the length alone.
         let place = bit as usize;
         if place < 16 {
-            next.bits[place] = true;
+            self.bits[place] = true;
         }
-        if on {
-            next.main = true;
-        }
-        next
+        self.main |= on;
     }
 
     // The status read: its bits clear, the Main bit stays.
-    pub fn cleared(self) -> Latches
-        ensures { result ≡ cleared_in self }
+    pub fn clear(&mut self)
+        ensures { self.new ≡ cleared_in self.old }
     {
-        let mut next = self;
-        next.bits = [false; 16];
-        next
+        self.bits = [false; 16];
     }
 
     // Main's status read: the Main bit clears, the others stay.
-    pub fn taken(self) -> Latches
-        ensures { result ≡ taken_in self }
+    pub fn take_main(&mut self) -> bool
+        ensures next { self.new ≡ taken_in self.old }
+        ensures taken { result ≡ self.old.main }
     {
-        let mut next = self;
-        next.main = false;
-        next
+        std::mem::replace(&mut self.main, false)
     }
 }
 
@@ -141,38 +135,28 @@ impl Status {
 
     // A condition happens: it latches in both copies, and sets both Main bits where it is enabled.
     #[tactic(auto, unfolding(crate::specs::Latching::latched))]
-    pub fn latched(self, bit: u8) -> Status
-        ensures { result ≡ latched self bit }
+    pub fn latch(&mut self, condition: Condition)
+        ensures { self.new ≡ latched self.old (condition_bit condition) }
     {
+        let bit = condition.bit();
         let on = is_set(self.enable, bit);
-        let interrupt = self.interrupt;
-        let polling = self.polling;
-        Status {
-            enable: self.enable,
-            interrupt: interrupt.latched(bit, on),
-            polling: polling.latched(bit, on),
-        }
+        self.interrupt.latch(bit, on);
+        self.polling.latch(bit, on);
     }
 
     // Interrupt Enable written.
-    pub fn enabled(self, value: u16) -> Status
-        ensures { result ≡ enabled self value }
+    pub fn write_enable(&mut self, value: u16)
+        ensures { self.new ≡ enabled self.old value }
     {
-        let mut next = self;
-        next.enable = kept_enable(value);
-        next
+        self.enable = kept_enable(value);
     }
 
     // As opened, with the Main bits as they are.
-    pub fn reset(self) -> Status
-        ensures { result ≡ reset self }
+    pub fn reset(&mut self)
+        ensures { self.new ≡ reset self.old }
     {
-        let interrupt = self.interrupt;
-        let polling = self.polling;
-        Status {
-            enable: 0,
-            interrupt: interrupt.cleared(),
-            polling: polling.cleared(),
-        }
+        self.enable = 0;
+        self.interrupt.clear();
+        self.polling.clear();
     }
 }

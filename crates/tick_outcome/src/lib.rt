@@ -6,9 +6,9 @@ ghost use Rattle.tick_outcome.specs.Outcomes.{silence_at, silence, outcome};
 
 use sequencer::{Sequencer, Stage};
 
-#[derive(Clone, Copy)]
+#[derive(Clone, Copy, Debug, PartialEq, Eq)]
 pub enum TickOutcome {
-    // There was no tick yet.
+    // There was no tick yet: the first of the eight answers that document 02, card 10, lists, and so no Option.
     NoTick,
     Sent,
     Disarmed,
@@ -19,49 +19,32 @@ pub enum TickOutcome {
     BetweenEdges,
 }
 
-// Of a tick that sends nothing on an armed channel, by the sequencer just before it.
-fn armed_silence(before: Sequencer) -> TickOutcome
-    ensures { result ≡ silence_at before.stage before }
-{
-    let stage = before.stage;
-    match stage {
-        Stage::Idle => TickOutcome::Idle,
-        Stage::Starting => {
-            if before.left <= 10 {
-                return TickOutcome::StartGap;
-            }
-            TickOutcome::StartDelay
-        }
-        Stage::Running => TickOutcome::BetweenEdges,
-        Stage::Paused(_) => TickOutcome::BetweenEdges,
-        Stage::Resuming => {
-            if before.resume <= 10 {
-                return TickOutcome::ResumeGap;
-            }
-            TickOutcome::BetweenEdges
-        }
-        Stage::Ended => TickOutcome::BetweenEdges,
-    }
-}
-
-// Of a tick that sends nothing.
+// Of a tick that sends nothing, by the sequencer just before it.
 #[tactic(auto, unfolding(crate::specs::Outcomes::silence))]
-pub fn silence(before: Sequencer) -> TickOutcome
-    ensures { result ≡ silence before }
+pub fn silence(before: &Sequencer) -> TickOutcome
+    ensures { result ≡ silence before.now }
 {
-    if before.armed {
-        return armed_silence(before);
+    if !before.armed {
+        return TickOutcome::Disarmed;
     }
-    TickOutcome::Disarmed
+    match before.stage {
+        Stage::Idle => TickOutcome::Idle,
+        Stage::Starting if before.left <= 10 => TickOutcome::StartGap,
+        Stage::Starting => TickOutcome::StartDelay,
+        Stage::Resuming if before.resume <= 10 => TickOutcome::ResumeGap,
+        Stage::Running | Stage::Paused(_) | Stage::Resuming | Stage::Ended =>
+            TickOutcome::BetweenEdges,
+    }
 }
 
 // Of any tick, by whether it sends a frame and the sequencer just before it.
 #[tactic(auto, unfolding(crate::specs::Outcomes::outcome))]
-pub fn outcome(sends: bool, before: Sequencer) -> TickOutcome
-    ensures { result ≡ outcome sends before }
+pub fn outcome(sends: bool, before: &Sequencer) -> TickOutcome
+    ensures { result ≡ outcome sends before.now }
 {
     if sends {
-        return TickOutcome::Sent;
+        TickOutcome::Sent
+    } else {
+        silence(before)
     }
-    silence(before)
 }

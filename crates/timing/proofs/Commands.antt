@@ -8,18 +8,20 @@ use lib.ListN.{length, get_or, set, length-set}
 use lib.Seq.{get_or-set_same, get_or-set_other}
 use lib.Dec.{eqb, ltb}
 use borrow.Author.Tests.{eq-eqb, ne_eqb, eqb-true, le-ltb, lt-ltb}
+use Rattle.std.specs.Option.{is_some}
+use Rattle.std.specs.declared.option.Option.TheVariants.{Some, None}
 use Rattle.frame.specs.Frames.{read, fields, crc_right}
 use Rattle.register_map.specs.AccessRule.{channel_access}
 use Rattle.register_map.specs.AccessRefusals.{read_refusal}
 use Rattle.status.specs.Bits.{bit_at}
-use Rattle.sequencer.specs.declared.Transmission.{Transmission}
-use Rattle.sequencer.specs.declared.Transmission.TheVariants as transmission
-use Rattle.sequencer.specs.Playing.{is_idle}
+use Rattle.sequencer.specs.Transmissions.{Transmission}
+use Rattle.sequencer.specs.Transmissions as transmission
+use Rattle.sequencer.specs.Playing.{is_idle, send_of}
 use Rattle.sequencer.specs.Runs.{ticks, sends}
 use Rattle.readback.specs.Storing.{disposition_of}
 use Rattle.readback.specs.Storing as rb
 use Rattle.command_frames.specs.declared.CommandFrames.{CommandFrames}
-use Rattle.command_frames.specs.declared.Waiting.TheVariants as waiting
+use Rattle.command_frames.specs.declared.Trigger.TheVariants as trigger
 use Rattle.command_frames.specs.Commanding.{is_due, requested, reached, takes, received, with_header, with_word, with_waiting, id_word, with_pair, command_frame}
 use Rattle.command_frames.specs.Commanding as cmd
 use Rattle.command_frames.proofs.Laws.{ticked_idle}
@@ -80,7 +82,7 @@ send_refused o value = rw (eq-eqb (o.m * 8) (o.m * 8) refl) (go (refuses o value
 
 -- D1 without D0
 group_written : (o : OneChannel) (value : ℕ) → bit_at value 0 ≡ false → bit_at value 1 ≡ true
-    → written o 0xfc value ≡ with o (with_waiting o.channel.commands waiting.GroupEnd)
+    → written o 0xfc value ≡ with o (with_waiting o.channel.commands (Some trigger.GroupEnd))
 group_written o value h g =
     send_written o value (ap (λ (b : Bool). b && not (o.channel.sequencer.armed && is_idle o.channel.sequencer.stage)) h)
     ∙ rw (h, g)
@@ -128,7 +130,7 @@ sends_prepared o header word due apart =
 
 pub sends_now : the.SendsNow
 sends_now o value header word armed idle on =
-    let f = with_waiting o.channel.commands waiting.NextTick in
+    let f = with_waiting o.channel.commands (Some trigger.NextTick) in
     let e : written o 0xfc value ≡ with o f = send_written o value (rw (armed, idle, on)) ∙ rw on in
     subst
     (λ (q : OneChannel).
@@ -137,7 +139,7 @@ sends_now o value header word armed idle on =
 
 -- ---- Waiting for Group End
 
-waits_on : (o : OneChannel) (k : ℕ) → o.channel.commands.waiting ≡ waiting.GroupEnd → (after o k).channel.commands.waiting ≡ waiting.GroupEnd
+waits_on : (o : OneChannel) (k : ℕ) → o.channel.commands.waiting ≡ Some trigger.GroupEnd → (after o k).channel.commands.waiting ≡ Some trigger.GroupEnd
 unfolding after
 waits_on o zero h = h
 waits_on o (suc k) h =
@@ -152,10 +154,10 @@ ended_waiting o g ends = ap (λ (f : CommandFrames). f.waiting) (ended_step o g 
 
 pub sends_after_group_end : the.SendsAfterGroupEnd
 sends_after_group_end o value k g header word off on ends =
-    let q = with o (with_waiting o.channel.commands waiting.GroupEnd) in
+    let q = with o (with_waiting o.channel.commands (Some trigger.GroupEnd)) in
     let w = after (written o 0xfc value) k in
-    let at : w.channel.commands.waiting ≡ waiting.GroupEnd =
-    subst (λ (p : OneChannel). (after p k).channel.commands.waiting ≡ waiting.GroupEnd) (sym (group_written o value off on)) (waits_on q k refl) in
+    let at : w.channel.commands.waiting ≡ Some trigger.GroupEnd =
+    subst (λ (p : OneChannel). (after p k).channel.commands.waiting ≡ Some trigger.GroupEnd) (sym (group_written o value off on)) (waits_on q k refl) in
     let due = ap is_due (ended_waiting w g ends ∙ ap reached at) in
     sends_prepared (transition w g) header word due ((ended_step w g ends).apart.due due)
 
@@ -166,18 +168,18 @@ waits_for_group_end o value j off on =
 -- ---- Dropped
 
 -- with nothing waiting none leaves, not even after a Group End
-never : (o : OneChannel) (j : ℕ) → o.channel.commands.waiting ≡ waiting.Nothing
+never : (o : OneChannel) (j : ℕ) → o.channel.commands.waiting ≡ None
     → (between o j ≡ ans.none) × ((g : ChannelCall) → ends_group (entry o g) ≡ true → between (transition o g) j ≡ ans.none)
 never o j h = (
   between_none o j (ap is_due h),
   λ g ends. between_none (transition o g) j (ap is_due (ended_waiting o g ends ∙ ap reached h)),
 )
 
-disarm_waiting : (o : OneChannel) → (transition o disarm).channel.commands.waiting ≡ waiting.Nothing
+disarm_waiting : (o : OneChannel) → (transition o disarm).channel.commands.waiting ≡ None
 unfolding transition refusal_of effect disarmed_of cmd.dropped
 disarm_waiting o = refl
 
-reset_waiting : (o : OneChannel) → (written o 0x06 1).channel.commands.waiting ≡ waiting.Nothing
+reset_waiting : (o : OneChannel) → (written o 0x06 1).channel.commands.waiting ≡ None
 unfolding transition refusal_of effect register_refusal register_effect channel_access reset
 reset_waiting o = rw (eq-eqb (o.m * 8) (o.m * 8) refl)
 
@@ -288,7 +290,7 @@ replies_to_commands o number id word aux crc k framed long on counted few = pair
 
 -- nothing was sent since idle, and no reply goes to E4–FA
 module _ (o : OneChannel) (number id word aux crc : ℕ) (framed : read number ≡ fields id word aux crc)
-    (off : o.channel.commands.receiving ≡ false) (unsent : o.channel.sequencer.last.sent ≡ false)
+    (off : o.channel.commands.receiving ≡ false) (unsent : is_some o.channel.sequencer.last ≡ false)
   where
     not_taken : takes o.channel.commands ≡ false
     unfolding takes
@@ -296,7 +298,7 @@ module _ (o : OneChannel) (number id word aux crc : ℕ) (framed : read number �
 
     not_due : (idle : Bool) → rb.is_due idle o.channel.sequencer.last ≡ false
     not_due true = refl
-    not_due false = ap (λ (b : Bool). b && ltb o.channel.sequencer.last.replies 6) unsent
+    not_due false = ap (λ (b : Bool). b && ltb (send_of o.channel.sequencer.last).replies 6) unsent
 
     unasked : response o (reply (o.m * 8) number) ≡ ans.unsolicited
     unfolding answer reply_answer disposition_now disposition_of

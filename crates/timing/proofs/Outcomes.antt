@@ -11,8 +11,8 @@ use Rattle.registers.specs.Map.{group_end_event, tag_event}
 use Rattle.sequencer.specs.declared.Stage.{Stage}
 use Rattle.sequencer.specs.declared.Stage.TheVariants as stage
 use Rattle.sequencer.specs.declared.Sequencer.{Sequencer}
-use Rattle.sequencer.specs.declared.Ticked.{Ticked}
-use Rattle.sequencer.specs.declared.Transmission.TheVariants as transmission
+use Rattle.sequencer.specs.Transmissions.{Ticked}
+use Rattle.sequencer.specs.Transmissions as transmission
 use Rattle.sequencer.specs.Playing.{with_left, is_idle, ticked, ticked_at, quiet}
 use Rattle.sequencer.specs.Playing as seq
 use Rattle.sequencer.specs.Runs.{next, ticks, sends, advances, holds}

@@ -11,7 +11,7 @@ use Rattle.registers.specs.Map.{triggers_of, delay_of, tag_event}
 use Rattle.sequencer.specs.declared.Stage.{Stage}
 use Rattle.sequencer.specs.declared.Stage.TheVariants as stage
 use Rattle.sequencer.specs.declared.Sequencer.{Sequencer}
-use Rattle.sequencer.specs.declared.Ticked.{Ticked}
+use Rattle.sequencer.specs.Transmissions.{Ticked}
 use Rattle.sequencer.specs.Playing.{resumed, loaded_resume, with_resume, with_tag, quiet, repeating, resuming, sent_next, ticked, ticked_at}
 use Rattle.sequencer.specs.Runs.{next, ticks}
 use Rattle.sequencer.proofs.Steps.{repeating_same}

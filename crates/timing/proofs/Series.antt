@@ -11,7 +11,7 @@ use Rattle.registers.specs.Map.{period_of}
 use Rattle.sequencer.specs.declared.Kind.TheVariants as kind
 use Rattle.sequencer.specs.Words.{kind_of, at_end}
 use Rattle.sequencer.specs.declared.Sequencer.{Sequencer}
-use Rattle.sequencer.specs.declared.Ticked.{Ticked}
+use Rattle.sequencer.specs.Transmissions.{Ticked}
 use Rattle.sequencer.specs.Playing.{repeating, repeated}
 use Rattle.sequencer.specs.Runs.{ticks, kind_at, holds}
 use Rattle.sequencer.proofs.Steps.{hold_turn, repeating_same}

@@ -5,13 +5,16 @@ use mathlib.Core.Bool.{Bool, true, false, cond}
 use mathlib.Core.List.{List}
 use lib.Dec.{eqb}
 use lib.ListN.{replicate}
+use Rattle.std.specs.declared.option.Option.{Option}
+use Rattle.std.specs.declared.option.Option.TheVariants.{Some, None}
+use Rattle.std.specs.Option.{option_map}
 use Rattle.status.specs.declared.Status.{Status}
 use Rattle.registers.specs.Map.{period_of}
 use Rattle.sequencer.specs.declared.LastSend.{LastSend}
 use Rattle.sequencer.specs.declared.Sequencer.{Sequencer}
-use Rattle.sequencer.specs.declared.Transmission.{Transmission}
-use Rattle.sequencer.specs.declared.Transmission.TheVariants as transmission
-use Rattle.sequencer.specs.Playing.{shortfall}
+use Rattle.sequencer.specs.Transmissions.{Transmission}
+use Rattle.sequencer.specs.Transmissions as transmission
+use Rattle.sequencer.specs.Playing.{with_last, with_tag, shortfall}
 use Rattle.sequencer.specs.Runs.{unmarked}
 use Rattle.sequencer.specs.Runs as seq
 use Rattle.sequencer.proofs.Untagged.{Alike, tick_untagged}
@@ -33,11 +36,22 @@ use Rattle.timing.proofs.Calls.{tagged_channel}
 abbrev plain : Channel → Channel
 plain c = with_sequencer c (seq.untagged c.sequencer)
 
+-- taking the mark away again changes nothing
+unmarked_again : (l : Option LastSend) → option_map unmarked (option_map unmarked l) ≡ option_map unmarked l
+unmarked_again None = refl
+unmarked_again (Some l) = refl
+
+untagged_again : (o : OneChannel) → untagged (untagged o) ≡ untagged o
+untagged_again o =
+    ap (λ (l : Option LastSend). with_channel o (with_sequencer o.channel (with_tag (with_last o.channel.sequencer l) false)))
+    (unmarked_again o.channel.sequencer.last)
+
 -- what is counted as missing goes by no tag
-status_same : (s : Status) (l : LastSend) (x : Transmission) → send_status s (unmarked l) x ≡ send_status s l x
+status_same : (s : Status) (l : Option LastSend) (x : Transmission) → send_status s (option_map unmarked l) x ≡ send_status s l x
 unfolding shortfall
 status_same s l transmission.Nothing = refl
-status_same s l (transmission.Word word k) = refl
+status_same s None (transmission.Word word k) = refl
+status_same s (Some x) (transmission.Word word k) = refl
 
 module _ (c : Channel) (s : List ℕ) (n user : ℕ) where
   played_same : Alike (played_of (plain c) s n user) (played_of c s n user)
@@ -62,7 +76,7 @@ module _ (c : Channel) (s : List ℕ) (n user : ℕ) where
       let y = tick_outcome_of (plain c) s n user in
       ap₂
       (λ (t : Transmission) (q : Sequencer).
-      with_commands (with_outcome (with_sequencer (with_status c (send_status c.status (unmarked c.sequencer.last) t)) q) y) (cmd.ticked c.commands (is_setpoint t)))
+      with_commands (with_outcome (with_sequencer (with_status c (send_status c.status (option_map unmarked c.sequencer.last) t)) q) y) (cmd.ticked c.commands (is_setpoint t)))
       a.transmission_same a.rest_same
       ∙ ap₂
       (λ (t : Status) (z : TickOutcome).
@@ -77,7 +91,7 @@ module _ (lent : ℕ) where
     where
       go : (b : Bool) → untagged (cond b (effect (untagged o) (tick lent)) (untagged o)) ≡ untagged (cond b (effect o (tick lent)) o)
       go true = ap (with_channel o) (tick_same o.channel o.setpoints o.n o.user)
-      go false = refl
+      go false = untagged_again o
 
   response_same : (o : OneChannel) → response (untagged o) (tick lent) ≡ response o (tick lent)
   unfolding response refusal_of answer

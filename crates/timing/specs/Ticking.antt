@@ -6,8 +6,8 @@ use Rattle.status.specs.Bits.{bit_of}
 use Rattle.registers.specs.Map.{period_of, second_active}
 use Rattle.sequencer.specs.declared.Sequencer.{Sequencer}
 use Rattle.sequencer.specs.declared.Stage.TheVariants as stage
-use Rattle.sequencer.specs.declared.Transmission.{Transmission}
-use Rattle.sequencer.specs.declared.Transmission.TheVariants as transmission
+use Rattle.sequencer.specs.Transmissions.{Transmission}
+use Rattle.sequencer.specs.Transmissions as transmission
 use Rattle.sequencer.specs.Runs.{ticks, sends, JustSent, Beat}
 use Rattle.channel_core.specs.Answers.{Answer}
 use Rattle.channel_core.specs.Answers as ans

@@ -2,153 +2,111 @@
 #![tactic(auto)]
 
 use access_control::GuardedBoard;
-use output::Block;
+use output::Printer;
 use permissions::{BoardRights, Role};
-use records::{RecordsLength, Request};
+use records::Request;
 use refusal::Refusal;
-use std::io::{self, Stdout};
+use std::io;
 
-fn setpoint(
-    out: Stdout,
-    block: &mut Block,
-    b: GuardedBoard,
-    setpoints: &mut [u32],
-    number: u32,
-    user: u32,
-    buffer: u32,
-    index: u32,
-    word: u32,
-) -> GuardedBoard {
-    let role = Role::Examiner;
-    printed_calls::write_setpoint(
-        out, block, b, role, setpoints, number, user, buffer, index, word,
-    )
+// A zeroed board of depths 16 and 64, what it is lent, and where its answers are printed.
+#[derive(Drop)]
+struct Bench {
+    printer: Printer,
+    board: GuardedBoard,
+    setpoints: [u32; 1024],
+    readbacks: [u32; 512],
 }
 
-// A record's call, which is the examiner's, and the board after it.
-fn call(
-    out: Stdout,
-    block: &mut Block,
-    b: GuardedBoard,
-    setpoints: &mut [u32],
-    readbacks: &mut [u32],
-    request: Request,
-) -> GuardedBoard {
-    let role = Role::Examiner;
-    match request {
-        Request::Write { address, value } => {
-            printed_calls::write_register(out, block, b, role, readbacks, address, value)
-        }
-        Request::Read { address } => printed_calls::read_register(out, block, b, role, address),
-        Request::Setpoint {
-            number,
-            user,
-            buffer,
-            index,
-            word,
-        } => setpoint(out, block, b, setpoints, number, user, buffer, index, word),
-        Request::Event { code } => printed_calls::event(out, block, b, role, readbacks, code),
-        Request::Ticks { count } => printed_ticks::ticks(out, block, b, role, setpoints, count),
-        Request::Reply { number, frame } => {
-            printed_calls::reply(out, block, b, role, readbacks, number, frame)
-        }
-        Request::User { user } => printed_calls::change_user(out, block, b, role, user),
-        Request::Arm { number } => printed_calls::arm(out, block, b, role, number),
-        Request::Disarm { number } => printed_calls::disarm(out, block, b, role, number),
-        Request::Bad => {
-            printed_calls::refused(out, block, Refusal::BadRecord);
-            b
+impl Bench {
+    fn open(printer: Printer) -> Bench {
+        let setpoints = [0u32; 1024];
+        let readbacks = [0u32; 512];
+        let opened = guarded_board::open(16, 64, BoardRights::none(), &setpoints, &readbacks);
+        Bench {
+            printer,
+            board: opened.unwrap(),
+            setpoints,
+            readbacks,
         }
     }
-}
 
-// One record's line.
-fn line(
-    out: Stdout,
-    block: &mut Block,
-    b: GuardedBoard,
-    setpoints: &mut [u32],
-    readbacks: &mut [u32],
-    request: Request,
-    number: usize,
-) -> GuardedBoard {
-    output::decimal(out, block, number as u64);
-    let board = call(out, block, b, setpoints, readbacks, request);
-    output::end_line(out, block);
-    board
-}
-
-// Every record of the part.
-fn play(
-    out: Stdout,
-    block: &mut Block,
-    b: GuardedBoard,
-    part: &[u8],
-    setpoints: &mut [u32],
-    readbacks: &mut [u32],
-) -> GuardedBoard {
-    let mut board = b;
-    let mut number: usize = 0;
-    while number < part.len() / 8 {
-        let start = number * 8;
-        let end = start + 8;
-        let request = records::decode(&part[start..end]);
-        number += 1;
-        board = line(out, block, board, setpoints, readbacks, request, number);
+    // A record's call, which is the examiner's.
+    fn call(&mut self, request: Request) {
+        let (printer, g) = (&mut self.printer, &mut self.board);
+        let (setpoints, readbacks) = (&mut self.setpoints, &mut self.readbacks);
+        let role = Role::Examiner;
+        match request {
+            Request::Write { address, value } => {
+                printed_calls::write_register(printer, g, role, readbacks, address, value)
+            }
+            Request::Read { address } => printed_calls::read_register(printer, g, role, address),
+            Request::Setpoint {
+                number,
+                user,
+                buffer,
+                index,
+                word,
+            } => {
+                let answer = guarded_channels::write_setpoint(
+                    g, role, setpoints, number, user, buffer, index, word,
+                );
+                printed_calls::done(printer, answer)
+            }
+            Request::Event { code } => printed_calls::event(printer, g, role, readbacks, code),
+            Request::Ticks { count } => printed_ticks::ticks(printer, g, role, setpoints, count),
+            Request::Reply { number, frame } => {
+                printed_calls::reply(printer, g, role, readbacks, number, frame)
+            }
+            Request::User { user } => printed_calls::change_user(printer, g, role, user),
+            Request::Arm { number } => printed_calls::arm(printer, g, role, number),
+            Request::Disarm { number } => printed_calls::disarm(printer, g, role, number),
+        }
     }
-    board
-}
 
-// A word by its index; nothing for 0.
-fn word(out: Stdout, block: &mut Block, index: usize, word: u32) {
-    if word != 0 {
-        output::numbered(out, block, b" ", index as u64);
-        output::text(out, block, b"=");
-        output::hex_word(out, block, word);
+    // A record's line.
+    fn line(&mut self, number: usize, request: Result<Request, Refusal>) {
+        self.printer.decimal(number as u64);
+        match request {
+            Ok(request) => self.call(request),
+            Err(reason) => printed_calls::refused(&mut self.printer, reason),
+        }
+        self.printer.end_line();
+    }
+
+    // The line after the records: every word of the readback memory that is not 0, and the retired counts.
+    fn end(&mut self) {
+        self.printer.text(b"end");
+        for (index, word) in self.readbacks.iter().enumerate() {
+            if *word != 0 {
+                self.printer.numbered(b" ", index as u64);
+                self.printer.text(b"=");
+                self.printer.hex_word(*word);
+            }
+        }
+        printed_calls::retired_counts(&mut self.printer, &self.board, &self.readbacks, b" r");
+        self.printer.end_line();
     }
 }
 
-// Every word that is not 0.
-fn words(out: Stdout, block: &mut Block, memory: &[u32]) {
-    let mut i: usize = 0;
-    while i < memory.len() {
-        word(out, block, i, memory[i]);
-        i += 1;
+// The records of the part, and the last line.
+fn trace(printer: Printer, part: &[u8]) -> Printer {
+    let mut bench = Bench::open(printer);
+    for (index, record) in part.chunks_exact(8).enumerate() {
+        bench.line(index + 1, records::decode(record));
     }
-}
-
-// The line after the records: the readback memory, and the retired counts.
-fn end(out: Stdout, block: &mut Block, b: GuardedBoard, readbacks: &[u32]) {
-    output::text(out, block, b"end");
-    words(out, block, readbacks);
-    printed_calls::retired_counts(out, block, b, readbacks, b" r");
-    output::end_line(out, block);
-}
-
-// The records on a zeroed board of depths 16 and 64, and the last line.
-fn trace(out: Stdout, block: &mut Block, part: &[u8]) {
-    let mut setpoints = [0u32; 1024];
-    let mut readbacks = [0u32; 512];
-    let opened = guarded_board::open(16, 64, BoardRights::none(), &setpoints, &readbacks);
-    let board = opened.board;
-    let played = play(out, block, board, part, &mut setpoints, &mut readbacks);
-    end(out, block, played, &readbacks);
-}
-
-fn refused(out: Stdout, block: &mut Block) {
-    output::text(out, block, b"file 8\n");
+    bench.end();
+    bench.printer
 }
 
 fn main(rt: HostRuntime) -> io::Result<()> {
-    let out = rt.stdout();
-    let mut block = output::empty();
-    let mut file = [0u8; 65537];
-    let length = input::read_full(&mut rt.stdin(), &mut file)?;
-    let answer = records::records_length(&file[..length]);
-    match answer {
-        RecordsLength::Bytes(_) => trace(out, &mut block, records::records(&file[..length])),
-        RecordsLength::Refused(_) => refused(out, &mut block),
+    let mut printer = Printer::new(rt.stdout());
+    let mut bytes = [0u8; 65537];
+    let length = input::read_full(&mut rt.stdin(), &mut bytes)?;
+    let file = &bytes[..length];
+    match records::records_length(file) {
+        Ok(_) => printer = trace(printer, records::records(file)),
+        Err(_) => printer.text(b"file 8\n"),
     }
-    output::flush(out, &mut block);
+    printer.flush();
     Ok(())
 }

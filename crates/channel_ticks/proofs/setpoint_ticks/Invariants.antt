@@ -6,8 +6,8 @@ use Rattle.channel_ticks.proofs.setpoint_ticks.Given as goal
 abbrev pub invariant-loop-done : goal.invariant-loop-done
 invariant-loop-done l =
     (l.done ≤ l.count)
-    × Held l.setpoints l.n l.user l.c l.initial.captured l.done l.progress.condition l.progress.sequencer l.progress.frames l.captured
-    × Said l.setpoints l.n l.user l.c l.done l.progress.outcome
+    × Held l.setpoints l.n l.user l.fn.c l.initial.captured l.done l.progress.sequencer l.progress.frames l.captured
+    × Said l.setpoints l.n l.user l.fn.c l.done l.progress.outcome
 
 abbrev pub decreases-loop-done : goal.decreases-loop-done
 decreases-loop-done l = l.count - l.done

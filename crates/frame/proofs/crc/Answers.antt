@@ -6,15 +6,14 @@ use Rattle.frame.specs.Crc.{crc_of}
 use Rattle.frame.proofs.Messages.{crc_more}
 use Rattle.frame.proofs.crc.Goals as goal
 
-pub loop-i-init : goal.loop-i-init
+pub loop-byte-init : goal.loop-byte-init
 unfolding crc_of
-loop-i-init c = (omega arith, refl)
+loop-byte-init c = refl
 
-pub loop-i-preserved : goal.loop-i-preserved
-loop-i-preserved c =
+pub loop-byte-preserved : goal.loop-byte-preserved
+loop-byte-preserved c =
     let message = c.args.message.now in
-    let l = c.loop-i in (
-      omega arith,
-      c.byte_crc-remainder.ensures ∙ ap (λ (x : ℕ). crc_of (bit_xor x (get_or message l.i 0))) l.invariant.1
-          ∙ crc_more message l.i (omega arith) (c.type_inv.message l.i).fits,
-    )
+    let i = c.loop-byte.byte-index in
+    c.byte_crc-remainder.ensures
+    ∙ ap (λ (x : ℕ). crc_of (bit_xor x (get_or message i 0))) c.loop-byte.invariant
+    ∙ crc_more message i (omega arith) (c.type_inv.message i).fits

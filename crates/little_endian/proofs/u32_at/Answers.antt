@@ -1,8 +1,9 @@
--- `little_endian::u32_at` meets its contract: each byte is what `byte` reads. Assumes nothing.
+-- `little_endian::u32_at` meets its contract: it is the number of a field's bytes. Assumes nothing.
+use Rattle.std.proofs.Common.{arith, lit<}
 use Rattle.little_endian.proofs.Bytes.{four_bytes}
 use Rattle.little_endian.proofs.u32_at.Goals as goal
 
 pub returns : goal.returns
 returns c =
-    rw (c.byte-fourth.ensures, c.byte-third.ensures, c.byte-second.ensures, c.byte-first.ensures)
-    (four_bytes _ _)
+    let field = c.field.ensures in
+    omega (arith, c.from_le_bytes.ensures, four_bytes c.args.bytes.now c.args.i, field 0 (lit< tt), field 1 (lit< tt), field 2 (lit< tt), field 3 (lit< tt))

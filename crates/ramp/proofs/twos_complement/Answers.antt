@@ -8,5 +8,5 @@ use Rattle.ramp.proofs.twos_complement.Goals as goal
 pub returns-then-offset-lt32768 : goal.returns-then-offset-lt32768
 returns-then-offset-lt32768 c = ((λ z e. sym (bits_low z _ (sum_diff z _ _ e) c.if-offset-lt32768.true)), omega arith)
 
-pub returns : goal.returns
-returns c = ((λ z e. sym (bits_high z _ (sum_diff z _ _ e) c.if-offset-lt32768.false)), omega arith)
+pub returns-else-offset-lt32768 : goal.returns-else-offset-lt32768
+returns-else-offset-lt32768 c = ((λ z e. sym (bits_high z _ (sum_diff z _ _ e) c.if-offset-lt32768.false)), omega arith)

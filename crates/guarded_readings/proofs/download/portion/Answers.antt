@@ -1,26 +1,17 @@
--- `guarded_readings::download::portion` meets its contract: granted, the board's own call; denied, it is refused, and the part is empty. Assumes nothing.
-use mathlib.Core.Path.{sym, ap, ◌∙◌}
-use mathlib.Core.Bool.{not}
+-- `guarded_readings::download::portion` meets its contract: the board's own part where the role may read the channel, else an empty one. Assumes nothing.
+use mathlib.Core.Path.{sym, ◌∙◌}
 use Rattle.channel.specs.OneChannel.{portion}
-use Rattle.isolation.specs.Calls.{query, buffers, answer}
-use Rattle.access_control.specs.Guarding.{part_in}
-use Rattle.access_control.proofs.Laws.{answer_denied, answer_granted}
+use Rattle.isolation.specs.Calls.{buffers}
+use Rattle.access_control.proofs.Guarded.{part_shown, part_hidden}
 use Rattle.guarded_readings.proofs.download.portion.Goals as goal
 
 pub returns-then-may_read : goal.returns-then-may_read
-unfolding answer
 returns-then-may_read c =
-    let m = c in
-    let a = m.args in
+    let a = c.args in
     c.portion.ensures
-    ∙ ap part_in
-    (sym (answer_granted a.g.rights a.role a.g.board (query a.number (portion a.index a.size)) (buffers a.one.now a.two.now)
-    (ap not (sym m.may_read.ensures ∙ c.if-may_read.true))))
+    ∙ sym (part_shown a.g.now a.role a.number (portion a.index a.size) (buffers a.one.now a.two.now) (sym c.may_read.ensures ∙ c.if-may_read.true))
 
-pub returns : goal.returns
-returns c =
-    let m = c in
-    let a = m.args in
-    ap part_in
-    (sym (answer_denied a.g.rights a.role a.g.board (query a.number (portion a.index a.size)) (buffers a.one.now a.two.now)
-    (ap not (sym m.may_read.ensures ∙ c.if-may_read.false))))
+pub returns-else-may_read : goal.returns-else-may_read
+returns-else-may_read c =
+    let a = c.args in
+    sym (part_hidden a.g.now a.role a.number (portion a.index a.size) (buffers a.one.now a.two.now) (sym c.may_read.ensures ∙ c.if-may_read.false))

@@ -1,6 +1,0 @@
--- `pool::hashed_words` ends: the measure is what is left of the words. Assumes nothing.
-use Rattle.std.proofs.Common.{◌-◌, length}
-use Rattle.call_script.proofs.pool.hashed_words.Given as goal
-
-abbrev pub decreases-loop-i : goal.decreases-loop-i
-decreases-loop-i l = length l.words - l.i
