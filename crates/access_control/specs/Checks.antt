@@ -3,9 +3,12 @@ use Rattle.std.specs.Prelude.{ℕ, ◌≡◌, Result, Ok, Err, Some}
 use Rattle.refusal.specs.declared.Refusal.{Refusal}
 use Rattle.refusal.specs.Refusals.{number_of}
 use Rattle.address_map.specs.declared.Region.{Region}
-use Rattle.address_map.specs.Addresses.{named, named_of}
+use Rattle.address_map.specs.Addresses.{Named, named, named_of}
 use Rattle.access_control.specs.Guarding.{address_refusal}
 
+abbrev pub region_checked : Result Region Refusal → Named → Type 0
+region_checked (Ok r) x = (named_of (Some r) ≡ x) × (address_refusal x ≡ 0)
+region_checked (Err k) x = number_of k ≡ address_refusal x
+
 abbrev pub address_checked : Result Region Refusal → (address : ℕ) → Type 0
-address_checked (Ok r) address = (named_of (Some r) ≡ named address) × (address_refusal (named address) ≡ 0)
-address_checked (Err k) address = number_of k ≡ address_refusal (named address)
+address_checked r address = region_checked r (named address)

@@ -4,7 +4,8 @@
 ghost use Rattle.std.specs.Prelude.{◌≡◌, cond, not};
 ghost use Rattle.refusal.specs.Refusals.{verdict_number};
 ghost use Rattle.access_control.specs.Guarding.{permission_denied};
-ghost use Rattle.access_control.specs.Checks.{address_checked};
+ghost use Rattle.address_map.specs.Addresses.{named_of};
+ghost use Rattle.access_control.specs.Checks.{address_checked, region_checked};
 
 use address_map::Region;
 use board_state::Board;
@@ -18,11 +19,18 @@ pub struct GuardedBoard {
     pub rights: BoardRights,
 }
 
-// What an address names, if it is in the map; else 3. What the register can do is not looked at.
+// What an address names, if it is in the map; else 3.
 pub fn check_address(address: u32) -> Result<Region, Refusal>
     ensures { address_checked result address }
 {
-    let region = address_map::decode_address(address).ok_or(Refusal::UnmappedRegister)?;
+    check_region(address_map::decode_address(address))
+}
+
+// 3 of what an address names. What the register can do is not looked at.
+pub fn check_region(region: Option<Region>) -> Result<Region, Refusal>
+    ensures { region_checked result (named_of region) }
+{
+    let region = region.ok_or(Refusal::UnmappedRegister)?;
     let access = match region {
         Region::Main { offset } => register_map::main_access(offset),
         Region::Channel { offset, .. } => register_map::channel_access(offset),

@@ -86,6 +86,7 @@ pub fn change_user(b: &mut Board, user: u32) -> Result<(), Refusal>
 {
     channel::check_range(1, 8, user)?;
     if user != u32::from(b.user) {
+        // By index: of an element behind `iter_mut` the proof knows nothing afterwards.
         for index in 0..4 {
             b.channels[index].change_user();
         }

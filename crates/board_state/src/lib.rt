@@ -165,6 +165,7 @@ impl Board {
     fn clear_status(&mut self, polling: bool)
         ensures { self.new ≡ status_read self.old polling }
     {
+        // By index: of an element behind `iter_mut` the proof knows nothing afterwards.
         for index in 0..4 {
             channel::take_main(&mut self.channels[index], polling);
         }
@@ -190,7 +191,7 @@ impl Board {
 
     // What a read of a Main register shows.
     #[tactic(auto, unfolding(crate::specs::Main::main_value))]
-    fn main_value(&self, offset: u16) -> u16
+    pub fn main_value(&self, offset: u16) -> u16
         ensures { result ≡ main_value self.now offset }
     {
         match offset {

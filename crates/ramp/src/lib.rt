@@ -22,9 +22,7 @@ struct Sample {
     pub remainder: u32,
 }
 
-// ---- The slice of structs
-
-// The thin function: the breakpoint at an index of the list.
+// The breakpoint at an index of the list, which no other function reads.
 fn breakpoint_at(points: &[Breakpoint], i: usize) -> Breakpoint
     requires { i < length points.now }
     ensures { result ≡ get_or points.now i zero_point }
@@ -159,7 +157,7 @@ pub fn write_ramp(
     Ok(fill(points, codes, remainders))
 }
 
-// The call, on the first `count` breakpoints of an array, or on all of them: for callers that hold no slice of structs.
+// The call, on the first `count` breakpoints of an array, or on all of them.
 pub fn write_ramp_by_value(
     points: [Breakpoint; 256],
     count: usize,
