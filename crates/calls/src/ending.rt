@@ -2,7 +2,7 @@
 use access_control::GuardedBoard;
 use output::Printer;
 use permissions::Role;
-use script_record::Session;
+use script_record::Bench;
 
 // Every register of a channel, or of Main as channel 0, and the line's end. An address that is not read has no value.
 fn registers(printer: &mut Printer, g: &mut GuardedBoard, channel: u8) {
@@ -16,13 +16,13 @@ fn registers(printer: &mut Printer, g: &mut GuardedBoard, channel: u8) {
     printer.end_line();
 }
 
-pub fn lines(session: &mut Session) {
-    let (printer, g) = (&mut session.printer, &mut session.board);
+pub fn lines(bench: &mut Bench) {
+    let (printer, g) = (&mut bench.printer, &mut bench.board);
     printer.text(b"end ");
-    printer.hex_digest(session.pools.digest());
+    printer.hex_digest(bench.pools.digest());
     printed_calls::interrupt_level(printer, g, Role::Examiner);
     printer.text(b" retired");
-    printed_calls::retired_counts(printer, g, &session.pools.readbacks, b" ");
+    printed_calls::retired_counts(printer, g, &bench.pools.readbacks, b" ");
     printer.end_line();
     for channel in 1..5u8 {
         printer.numbered(b"channel ", u64::from(channel));

@@ -5,18 +5,18 @@ mod ending;
 
 use call_script::script;
 use output::Printer;
-use script_record::Session;
+use script_record::Bench;
 use std::io;
 
 // The records of a script, and the lines after them.
 fn run(printer: Printer, script: &[u8], count: u16) -> Printer {
-    let mut session = Session::begin(printer, script::header_of(script));
+    let mut bench = Bench::begin(printer, script::header_of(script));
     for index in 0..count {
         let number = index + 1;
-        session.line(number, script::record_at(script, number));
+        bench.line(number, script::record_at(script, number));
     }
-    ending::lines(&mut session);
-    session.printer
+    ending::lines(&mut bench);
+    bench.printer
 }
 
 fn main(rt: HostRuntime) -> io::Result<()> {

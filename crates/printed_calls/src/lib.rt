@@ -17,27 +17,22 @@ pub fn refused(printer: &mut Printer, reason: Refusal) {
     printer.numbered(b" refused ", u64::from(u8::from(reason)));
 }
 
-// Prints a call's answer: what it tells, as `tell` does, or the refusal.
-pub fn answer<T, F: Fn(&mut Printer, T) + Copy>(
-    printer: &mut Printer,
-    answer: Result<T, Refusal>,
-    tell: F,
-)
-    requires { F.IsAlwaysCallable tell }
-{
+// What a call tells; where it is refused that is printed, and there is nothing to tell.
+pub fn told<T>(printer: &mut Printer, answer: Result<T, Refusal>) -> Option<T> {
     match answer {
-        Ok(told) => tell(printer, told),
-        Err(reason) => refused(printer, reason),
+        Ok(told) => Some(told),
+        Err(reason) => {
+            refused(printer, reason);
+            None
+        }
     }
 }
 
 // The answer of a call that has nothing to tell but that it was done.
 pub fn done(printer: &mut Printer, outcome: Result<(), Refusal>) {
-    answer(
-        printer,
-        outcome,
-        |printer: &mut Printer, _done: ()| ok(printer),
-    );
+    if told(printer, outcome).is_some() {
+        ok(printer);
+    }
 }
 
 pub fn write_register(
@@ -55,14 +50,11 @@ pub fn write_register(
 }
 
 pub fn read_register(printer: &mut Printer, g: &mut GuardedBoard, role: Role, address: u32) {
-    answer(
-        printer,
-        guarded_registers::read_register(g, role, address),
-        |printer: &mut Printer, value: u16| {
-            printer.text(b" value ");
-            printer.hex_value(value);
-        },
-    );
+    let answer = guarded_registers::read_register(g, role, address);
+    if let Some(value) = told(printer, answer) {
+        printer.text(b" value ");
+        printer.hex_value(value);
+    }
 }
 
 pub fn arm(printer: &mut Printer, g: &mut GuardedBoard, role: Role, number: u32) {
@@ -73,14 +65,6 @@ pub fn disarm(printer: &mut Printer, g: &mut GuardedBoard, role: Role, number: u
     done(printer, guarded_channels::disarm(g, role, number));
 }
 
-fn receipt(printer: &mut Printer, receipt: Receipt) {
-    match receipt {
-        Receipt::Kept => printer.text(b" kept"),
-        Receipt::Lost => printer.text(b" lost"),
-        Receipt::Unsolicited => printer.text(b" unasked"),
-    }
-}
-
 pub fn reply(
     printer: &mut Printer,
     g: &mut GuardedBoard,
@@ -89,11 +73,13 @@ pub fn reply(
     number: u32,
     frame: u64,
 ) {
-    answer(
-        printer,
-        guarded_channels::reply(g, role, readbacks, number, frame),
-        receipt,
-    );
+    let answer = guarded_channels::reply(g, role, readbacks, number, frame);
+    match told(printer, answer) {
+        Some(Receipt::Kept) => printer.text(b" kept"),
+        Some(Receipt::Lost) => printer.text(b" lost"),
+        Some(Receipt::Unsolicited) => printer.text(b" unasked"),
+        None => {}
+    }
 }
 
 pub fn part(printer: &mut Printer, part: &[u32]) {
@@ -105,9 +91,9 @@ pub fn part(printer: &mut Printer, part: &[u32]) {
 }
 
 pub fn length(printer: &mut Printer, length: Result<usize, Refusal>) {
-    answer(printer, length, |printer: &mut Printer, length: usize| {
-        printer.numbered(b" length ", length as u64)
-    });
+    if let Some(count) = told(printer, length) {
+        printer.numbered(b" length ", count as u64);
+    }
 }
 
 // The retired counts of channels 1 to 4, each asked by the examiner with the channel's own two buffers, after these words.
@@ -138,9 +124,8 @@ pub fn change_user(printer: &mut Printer, g: &mut GuardedBoard, role: Role, user
 }
 
 pub fn interrupt_level(printer: &mut Printer, g: &GuardedBoard, role: Role) {
-    answer(
-        printer,
-        guarded_board::interrupt_level(g, role),
-        |printer: &mut Printer, level: u8| printer.numbered(b" level ", u64::from(level)),
-    );
+    let answer = guarded_board::interrupt_level(g, role);
+    if let Some(level) = told(printer, answer) {
+        printer.numbered(b" level ", u64::from(level));
+    }
 }

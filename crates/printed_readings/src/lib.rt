@@ -35,11 +35,10 @@ fn readings(printer: &mut Printer, readings: Readings) {
 }
 
 pub fn last_readings(printer: &mut Printer, g: &GuardedBoard, role: Role, number: u32) {
-    printed_calls::answer(
-        printer,
-        guarded_readings::last_readings(g, role, number),
-        readings,
-    );
+    let answer = guarded_readings::last_readings(g, role, number);
+    if let Some(told) = printed_calls::told(printer, answer) {
+        readings(printer, told);
+    }
 }
 
 fn reason(printer: &mut Printer, outcome: TickOutcome) {
@@ -57,9 +56,8 @@ fn reason(printer: &mut Printer, outcome: TickOutcome) {
 }
 
 pub fn last_tick(printer: &mut Printer, g: &GuardedBoard, role: Role, number: u32) {
-    printed_calls::answer(
-        printer,
-        guarded_readings::last_tick(g, role, number),
-        reason,
-    );
+    let answer = guarded_readings::last_tick(g, role, number);
+    if let Some(told) = printed_calls::told(printer, answer) {
+        reason(printer, told);
+    }
 }

@@ -13,7 +13,7 @@ use permissions::BoardRights;
 
 // What the records of a script work on.
 #[derive(Drop)]
-pub struct Session {
+pub struct Bench {
     pub printer: Printer,
     pub board: GuardedBoard,
     pub pools: Pools,
@@ -27,25 +27,25 @@ fn closed(rights: BoardRights) -> GuardedBoard {
     }
 }
 
-impl Session {
+impl Bench {
     // The pools filled and the board of the header opened. The answer is printed as record 0.
-    pub fn begin(printer: Printer, header: Header) -> Session {
+    pub fn begin(printer: Printer, header: Header) -> Bench {
         let rights = roles::board_rights(0xff, 0x0f);
-        let mut session = Session {
+        let mut bench = Bench {
             printer,
             board: closed(rights),
             pools: Pools::filled(header.seed, header.mask),
         };
-        session.printer.decimal(0);
-        session.open(
+        bench.printer.decimal(0);
+        bench.open(
             header.n,
             header.m,
             rights,
             header.n as usize * 64,
             header.m as usize * 8,
         );
-        session.printer.end_line();
-        session
+        bench.printer.end_line();
+        bench
     }
 
     // The record's line.
@@ -203,10 +203,9 @@ impl Session {
 
     // A ramp, which names no board.
     fn ramp(&mut self, record: Record) {
-        printed_calls::answer(
-            &mut self.printer,
-            script_ramp::call(&mut self.pools, record),
-            |printer: &mut Printer, count: u32| printer.numbered(b" wrote ", u64::from(count)),
-        );
+        let answer = script_ramp::call(&mut self.pools, record);
+        if let Some(count) = printed_calls::told(&mut self.printer, answer) {
+            self.printer.numbered(b" wrote ", u64::from(count));
+        }
     }
 }
