@@ -1,6 +1,7 @@
 pub mod Earlier
 pub mod Later
 pub mod Laws
+pub mod Verdicts
 pub mod Guarded
 pub mod Worlds
 pub mod Granted

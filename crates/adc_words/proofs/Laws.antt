@@ -7,17 +7,16 @@ use native.Mathlib.Omega.{arith}
 use lib.Dec.{eqb, ltb}
 use lib.ListN.{length}
 use borrow.Author.Tests.{ne_eqb, eqb-true, eqb-false, lt-ltb, le-ltb, ltb-true, ltb-false}
-use Rattle.std.specs.declared.option.Option.{Option}
 use Rattle.adc_words.specs.declared.AdcWord.{AdcWord}
 use Rattle.adc_words.specs.declared.AdcWords.{AdcWords}
 use Rattle.adc_words.specs.Positions.{no_reply, none_arrived, with_reply, arrived, words_of}
 
 -- past the six no reply has a place
-past_six : (w : AdcWords) (k : ℕ) (a : Option AdcWord) → 6 ≤ k → with_reply w k a ≡ w
+past_six : (w : AdcWords) (k : ℕ) (a : AdcWord) → 6 ≤ k → with_reply w k a ≡ w
 unfolding with_reply
 past_six w k a h = rw (ne_eqb k 2 (λ e. omega arith), ne_eqb k 3 (λ e. omega arith), ne_eqb k 4 (λ e. omega arith), ne_eqb k 5 (λ e. omega arith))
 
-pub one_more : (replies : List (Option AdcWord)) (a : Option AdcWord) → with_reply (words_of replies) (length replies) a ≡ words_of (replies ++ (a ∷ []))
+pub one_more : (replies : List AdcWord) (a : AdcWord) → with_reply (words_of replies) (length replies) a ≡ words_of (replies ++ (a ∷ []))
 unfolding with_reply
 one_more [] a = refl
 one_more (p ∷ []) a = refl
@@ -29,7 +28,7 @@ one_more (p ∷ q ∷ r ∷ s ∷ t ∷ u ∷ rest) a =
     past_six (words_of (p ∷ q ∷ r ∷ s ∷ t ∷ u ∷ rest)) (length (p ∷ q ∷ r ∷ s ∷ t ∷ u ∷ rest)) a (omega arith)
 
 -- at a position, p replies having come before that reply
-place : (p k : ℕ) (x a : Option AdcWord) → cond (ltb p (k + 1)) (cond (eqb k p) a x) no_reply ≡ cond (eqb k p) a (cond (ltb p k) x no_reply)
+place : (p k : ℕ) (x a : AdcWord) → cond (ltb p (k + 1)) (cond (eqb k p) a x) no_reply ≡ cond (eqb k p) a (cond (ltb p k) x no_reply)
 place p k x a = go (eqb k p) refl
   where
     go : (here : Bool) → eqb k p ≡ here → cond (ltb p (k + 1)) (cond here a x) no_reply ≡ cond here a (cond (ltb p k) x no_reply)
@@ -40,7 +39,7 @@ place p k x a = go (eqb k p) refl
         further true f = rw (lt-ltb p (k + 1) (omega (arith, ltb-true p k f)))
         further false f = rw (le-ltb p (k + 1) (omega (arith, ltb-false p k f, eqb-false k p e)))
 
-pub arrived_more : (w : AdcWords) (k : ℕ) (a : Option AdcWord) → arrived (with_reply w k a) (k + 1) ≡ with_reply (arrived w k) k a
+pub arrived_more : (w : AdcWords) (k : ℕ) (a : AdcWord) → arrived (with_reply w k a) (k + 1) ≡ with_reply (arrived w k) k a
 unfolding arrived with_reply
 arrived_more w k a =
     rw (place 2 k w.third a, place 3 k w.fourth a, place 4 k w.fifth a, place 5 k w.sixth a)

@@ -1,23 +1,23 @@
 -- Document 02, card 7: "A send's third to sixth replies are its ADC words." "The six places are given by the reply's position after the send, so a reply lost
 -- to a full buffer keeps its position."
-use Rattle.std.specs.Prelude.{ℕ, Bool, cond, List, eqb, ltb, get_or, Option, Some, None}
+use Rattle.std.specs.Prelude.{ℕ, Bool, false, cond, List, eqb, ltb, get_or}
 use Rattle.adc_words.specs.declared.AdcWord.{AdcWord}
 use Rattle.adc_words.specs.declared.AdcWords.{AdcWords}
 
--- a reply: where it was stored, its CRC right or not, and its data; where it was not, nothing is kept of it
-abbrev pub adc_word : (stored right : Bool) → ℕ → Option AdcWord
-adc_word stored right bits = cond stored (Some (record { right = right; «data» = bits })) None
+-- a reply: stored or not, its CRC right or not, its data
+abbrev pub adc_word : (stored right : Bool) → ℕ → AdcWord
+adc_word stored right bits = record { stored = stored; right = right; «data» = bits }
 
 -- one that has not come
-abbrev pub no_reply : Option AdcWord
-no_reply = None
+abbrev pub no_reply : AdcWord
+no_reply = adc_word false false 0
 
 -- none of the four has
 abbrev pub none_arrived : AdcWords
 none_arrived = record { third = no_reply; fourth = no_reply; fifth = no_reply; sixth = no_reply }
 
 -- one more reply, `before` having come before it: the next after two is the third
-unfoldable pub with_reply : AdcWords → (before : ℕ) → Option AdcWord → AdcWords
+unfoldable pub with_reply : AdcWords → (before : ℕ) → AdcWord → AdcWords
 with_reply w before a =
     record {
       third = cond (eqb before 2) a w.third;
@@ -37,7 +37,7 @@ arrived w replies =
     }
 
 -- those of a send by the replies after it, in order
-abbrev pub words_of : List (Option AdcWord) → AdcWords
+abbrev pub words_of : List AdcWord → AdcWords
 words_of replies =
     record {
       third = get_or replies 2 no_reply;

@@ -2,39 +2,51 @@
 #![tactic(auto)]
 
 ghost use Rattle.std.specs.Prelude.{◌≡◌, cond};
-ghost use Rattle.adc_words.specs.Positions.{none_arrived, with_reply, arrived};
+ghost use Rattle.adc_words.specs.Positions.{no_reply, none_arrived, with_reply, arrived};
 
-// A reply that was stored: its CRC right or not, and its data.
+// A reply: stored or not, its CRC right or not, and its data.
 #[derive(Clone, Copy, Debug, PartialEq, Eq)]
 pub struct AdcWord {
+    pub stored: bool,
     pub right: bool,
     pub data: u16,
 }
 
-// None: a reply that was not stored, or that has not come.
 #[derive(Clone, Copy, Debug, PartialEq, Eq)]
 pub struct AdcWords {
-    pub third: Option<AdcWord>,
-    pub fourth: Option<AdcWord>,
-    pub fifth: Option<AdcWord>,
-    pub sixth: Option<AdcWord>,
+    pub third: AdcWord,
+    pub fourth: AdcWord,
+    pub fifth: AdcWord,
+    pub sixth: AdcWord,
+}
+
+// A reply that has not come.
+fn no_reply() -> AdcWord
+    ensures { result ≡ no_reply }
+{
+    AdcWord {
+        stored: false,
+        right: false,
+        data: 0,
+    }
 }
 
 impl AdcWords {
     pub fn none() -> AdcWords
         ensures { result ≡ none_arrived }
     {
+        let none = no_reply();
         AdcWords {
-            third: None,
-            fourth: None,
-            fifth: None,
-            sixth: None,
+            third: none,
+            fourth: none,
+            fifth: none,
+            sixth: none,
         }
     }
 
     // One more reply, stored or not, after `before` others.
     #[tactic(auto, unfolding(crate::specs::Positions::with_reply))]
-    pub fn add(&mut self, before: u8, word: Option<AdcWord>)
+    pub fn add(&mut self, before: u8, word: AdcWord)
         ensures { self.new ≡ with_reply self.old before word }
     {
         match before {
@@ -51,11 +63,12 @@ impl AdcWords {
     pub fn arrived(&self, replies: u8) -> AdcWords
         ensures { result ≡ arrived self.now replies }
     {
+        let none = no_reply();
         AdcWords {
-            third: self.third.filter(|_| 2 < replies),
-            fourth: self.fourth.filter(|_| 3 < replies),
-            fifth: self.fifth.filter(|_| 4 < replies),
-            sixth: self.sixth.filter(|_| 5 < replies),
+            third: if 2 < replies { self.third } else { none },
+            fourth: if 3 < replies { self.fourth } else { none },
+            fifth: if 4 < replies { self.fifth } else { none },
+            sixth: if 5 < replies { self.sixth } else { none },
         }
     }
 }

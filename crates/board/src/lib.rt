@@ -28,6 +28,29 @@ pub fn open(n: u32, m: u32, setpoints: &[u32], readbacks: &[u32]) -> Result<Boar
     }
 }
 
+// Opens the board anew on the memory lent. Where that is refused the closed board is in its place: the one before is gone.
+pub fn reopen(
+    b: &mut Board,
+    n: u32,
+    m: u32,
+    setpoints: &[u32],
+    readbacks: &[u32],
+) -> Result<(), Refusal>
+    ensures next { b.new ≡ open_board n m (length setpoints.now) (length readbacks.now) }
+    ensures answer { outcome_of result ≡ open_answer n m (length setpoints.now) (length readbacks.now) }
+{
+    match open(n, m, setpoints, readbacks) {
+        Ok(opened) => {
+            *b = opened;
+            Ok(())
+        }
+        Err(reason) => {
+            *b = Board::opened(0, 0);
+            Err(reason)
+        }
+    }
+}
+
 // One channel's tick, over its part of the setpoints.
 #[tactic(auto, unfolding(crate::specs::Calls::tick_channel, crate::specs::Calls::tick_frame))]
 fn tick_channel(b: &mut Board, setpoints: &[u32], index: usize) -> Option<u64>
@@ -65,7 +88,7 @@ fn event_channel(b: &mut Board, readbacks: &mut [u32], index: usize, code: u8)
     b.channels[index].event(&mut readbacks[part], b.m, b.user, code);
 }
 
-#[tactic(auto, unfolding(crate::specs::Calls::event_board, crate::specs::Calls::event_answer, crate::specs::Calls::event_words), using(crate::proofs::Events::event_depth, crate::proofs::Events::boards_none, crate::proofs::Events::parts_none, crate::proofs::Events::boards_next, crate::proofs::Events::parts_next))]
+#[tactic(auto, unfolding(crate::specs::Calls::event_board, crate::specs::Calls::event_answer, crate::specs::Calls::event_words), using(crate::proofs::Events::boards_depth, crate::proofs::Events::boards_none, crate::proofs::Events::parts_none, crate::proofs::Events::boards_next, crate::proofs::Events::parts_next))]
 pub fn event(b: &mut Board, readbacks: &mut [u32], code: u8) -> Result<(), Refusal>
     ensures next { b.new ≡ event_board b.old (length readbacks.old) code }
     ensures answer { outcome_of result ≡ event_answer b.old (length readbacks.old) }

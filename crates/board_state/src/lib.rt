@@ -3,8 +3,9 @@
 
 ghost use Rattle.std.specs.Prelude.{min, ◌≡◌, ◌*◌, ◌+◌, ◌^◌, ◌<◌, ◌≤◌, length};
 ghost use Rattle.channel.specs.Calls.{main_bit};
+ghost use Rattle.board_state.specs.Parts.{part_start};
 ghost use Rattle.board_state.specs.Checks.{channel_checked, setpoint_size, readback_size, setpoints_checked, readbacks_checked};
-ghost use Rattle.board_state.specs.State.{opened, channel_at, event_came};
+ghost use Rattle.board_state.specs.State.{opened, channel_at, with_channel_at, with_user, event_came};
 ghost use Rattle.board_state.specs.Main.{main_word, main_status, taken_at, status_read, main_written, main_value, main_read, level_of, enabled_bit};
 
 use channel_core::Channel;
@@ -40,6 +41,13 @@ pub fn check_channel(number: u32) -> Result<usize, Refusal>
     } else {
         Ok((number - 1) as usize)
     }
+}
+
+// Where a channel's part of a memory starts: the parts of channels 1 to 4 lie in a row, each of so many words to a unit of depth.
+pub fn part_start(number: u8, depth: u32, words: u8) -> usize
+    ensures { result ≡ part_start number (depth * words) }
+{
+    usize::from(registers::zero_based(number)) * (depth as usize * usize::from(words))
 }
 
 // Where the part of one of the four channels lies in a memory: the parts lie in a row, each of this size.
@@ -91,6 +99,34 @@ impl Board {
             },
             channels: [Channel::opened(); 4],
         }
+    }
+
+    // Channel 1 to 4. Of a number past them, a channel as it is opened.
+    pub fn channel(&self, number: u8) -> Channel
+        ensures { result ≡ channel_at self.now number }
+    {
+        let at = usize::from(registers::zero_based(number));
+        if at < 4 {
+            self.channels[at]
+        } else {
+            Channel::opened()
+        }
+    }
+
+    // Channel 1 to 4 replaced. By a number past them, nothing is.
+    pub fn set_channel(&mut self, number: u8, channel: Channel)
+        ensures { self.new ≡ with_channel_at self.old number channel }
+    {
+        let index = usize::from(registers::zero_based(number));
+        if index < 4 {
+            self.channels[index] = channel;
+        }
+    }
+
+    pub fn set_user(&mut self, user: u8)
+        ensures { self.new ≡ with_user self.old user }
+    {
+        self.user = user;
     }
 
     // Refused where the setpoints are not 64 words to the depth.

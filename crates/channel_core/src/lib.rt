@@ -16,7 +16,7 @@ use registers::{Event, Registers};
 use sequencer::{Sequencer, Stage};
 use status::{Condition, Status};
 use tick_outcome::TickOutcome;
-pub use ticks::{latch_by, setpoint_frame, setpoint_place, word_at};
+pub use ticks::{latch_bits, latch_by, setpoint_frame, setpoint_place, word_at};
 
 #[derive(Clone, Copy, Debug, PartialEq, Eq)]
 pub struct Channel {

@@ -39,9 +39,19 @@ fn latch_shortfall(status: &mut Status, missing: u8)
 pub fn latch_by(status: &mut Status, missing: u8, condition: Option<Condition>)
     ensures { status.new ≡ latched_by status.old missing (condition_number condition) }
 {
+    match condition {
+        Some(condition) => latch_bits(status, missing, condition.bit()),
+        None => latch_bits(status, missing, 0),
+    }
+}
+
+// The same by the condition's bit; 0 is no condition's.
+pub fn latch_bits(status: &mut Status, missing: u8, bit: u32)
+    ensures { status.new ≡ latched_by status.old missing bit }
+{
     latch_shortfall(status, missing);
-    if let Some(condition) = condition {
-        status.latch(condition);
+    if bit != 0 {
+        status.latch_bit(bit);
     }
 }
 

@@ -27,14 +27,16 @@ pub struct Readings {
 }
 
 #[tactic(auto, unfolding(crate::specs::Measuring::measured))]
-fn measure(word: Option<AdcWord>) -> Reading
+fn measure(word: AdcWord) -> Reading
     ensures { adc_reading_of result ≡ measured word }
 {
-    match word {
-        None => Reading::Lost,
-        Some(word) if word.right => Reading::Volts(codes::volts(word.data)),
-        Some(_) => Reading::Damaged,
+    if word.stored {
+        if word.right {
+            return Reading::Volts(codes::volts(word.data));
+        }
+        return Reading::Damaged;
     }
+    Reading::Lost
 }
 
 // Those of the last send.
@@ -42,7 +44,7 @@ fn measure(word: Option<AdcWord>) -> Reading
 pub fn last_readings(c: &Channel) -> Readings
     ensures { readings_of result ≡ readings_answer c.now }
 {
-    let adc = c.adc.arrived(c.sequencer.last_send().replies);
+    let adc = c.adc.arrived(c.sequencer.replies());
     Readings {
         third: measure(adc.third),
         fourth: measure(adc.fourth),

@@ -1,6 +1,6 @@
 -- Document 01, 'A channel's life': what a reply does to a channel, over the channel's own 2 × M readback words, and what it is answered.
 -- Document 02, card 1: replies to a command frame. Card 7: replies that are ADC words.
-use Rattle.std.specs.Prelude.{ℕ, Bool, true, false, cond, not, List, Option}
+use Rattle.std.specs.Prelude.{ℕ, Bool, true, false, cond, not, List}
 use Rattle.frame.specs.Frames.{Reading, refused, fields, read, crc_right}
 use Rattle.status.specs.declared.Status.{Status}
 use Rattle.status.specs.Latching.{latched, crc_error}
@@ -33,7 +33,7 @@ receipt_answer disposition.Kept = ans.kept
 
 -- a reply that was due, kept or lost, "counts among the six", and its CRC is checked; `adc` is what is kept of it where its position,
 -- after those that came before it, is that of an ADC word
-abbrev pub reply_counted : Channel → Bool → Option AdcWord → Channel
+abbrev pub reply_counted : Channel → Bool → AdcWord → Channel
 reply_counted c right adc =
     with_adc (with_sequencer (with_status c (crc_status c.status right)) (answered c.sequencer)) (with_reply c.adc (send_of c.sequencer.last).replies adc)
 

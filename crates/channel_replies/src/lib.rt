@@ -36,7 +36,7 @@ fn dispose(c: &Channel, m: u32) -> Receipt
 }
 
 // A reply that was due, kept or lost, is one of the six; its CRC is checked, and it may be an ADC word.
-fn count_reply(c: &mut Channel, right: bool, word: Option<AdcWord>)
+fn count_reply(c: &mut Channel, right: bool, word: AdcWord)
     ensures { c.new ≡ reply_counted c.old right word }
 {
     latch_crc(&mut c.status, right);
@@ -60,14 +60,26 @@ fn receive(
     let receipt = dispose(c, m);
     match receipt {
         Receipt::Unsolicited => {}
-        Receipt::Lost => count_reply(c, right, None),
+        Receipt::Lost => {
+            let lost = AdcWord {
+                stored: false,
+                right,
+                data: fields.data,
+            };
+            count_reply(c, right, lost);
+        }
         Receipt::Kept => {
             let data = fields.data;
             let last = c.sequencer.last_send();
             let word = readback::stored_word(&last, user, !right, fields.id, data);
             let second = c.registers.readback_second_active();
             c.readbacks.keep(words, second, m, word);
-            count_reply(c, right, Some(AdcWord { right, data }));
+            let kept = AdcWord {
+                stored: true,
+                right,
+                data,
+            };
+            count_reply(c, right, kept);
         }
     }
     receipt

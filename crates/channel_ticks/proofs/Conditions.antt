@@ -22,26 +22,26 @@ use Rattle.channel_core.specs.Behaviour.{condition_in}
 use Rattle.channel_ticks.specs.Ticks.{condition_at, condition_between}
 
 -- a tick leaves a stage that tells the condition of its word
-abbrev Settles : Ticked → Type 0
-Settles t = condition_in t.transmission ≡ condition_at t.sequencer.stage
+abbrev Tells : Ticked → Type 0
+Tells t = condition_in t.transmission ≡ condition_at t.sequencer.stage
 
-either_settles : (b : Bool) (x y : Ticked) → Settles x → Settles y → Settles (cond b x y)
-either_settles true x y p q = p
-either_settles false x y p q = q
+either_tells : (b : Bool) (x y : Ticked) → Tells x → Tells y → Tells (cond b x y)
+either_tells true x y p q = p
+either_tells false x y p q = q
 
-sent_settles : (s : Sequencer) (due n p id : ℕ) → Settles (sent_next s due n p id)
+sent_tells : (s : Sequencer) (due n p id : ℕ) → Tells (sent_next s due n p id)
 unfolding sent_next sent_as
-sent_settles s due n p id = go (kind_of due (at_end n s.index))
+sent_tells s due n p id = go (kind_of due (at_end n s.index))
   where
     go : (k : Kind) → condition_of k ≡ condition_at (stage_after k)
     go kind.Plain = refl
     go (kind.Pause k) = refl
     go kind.Last = refl
 
-advancing_settles : (s : Sequencer) (due n p id : ℕ) → condition_at s.stage ≡ 0 → Settles (advancing s due n p id)
+advancing_tells : (s : Sequencer) (due n p id : ℕ) → condition_at s.stage ≡ 0 → Tells (advancing s due n p id)
 unfolding advancing
-advancing_settles s due n p id e =
-    either_settles (leb s.left 1) (sent_next s due n p id) (quiet (with_left s (s.left - 1))) (sent_settles s due n p id) (sym e)
+advancing_tells s due n p id e =
+    either_tells (leb s.left 1) (sent_next s due n p id) (quiet (with_left s (s.left - 1))) (sent_tells s due n p id) (sym e)
 
 -- a repeat has none, and goes on
 repeating_none : (s : Sequencer) (p id : ℕ) → (condition_in (repeating s p id).transmission ≡ 0) × ((repeating s p id).sequencer.stage ≡ s.stage)
@@ -54,33 +54,33 @@ repeating_none s p id = go (leb s.left 1)
     go true = (refl, refl)
     go false = (refl, refl)
 
-resuming_settles : (s : Sequencer) (due n p id : ℕ) → condition_at s.stage ≡ 0 → Settles (resuming s due n p id)
+resuming_tells : (s : Sequencer) (due n p id : ℕ) → condition_at s.stage ≡ 0 → Tells (resuming s due n p id)
 unfolding resuming
-resuming_settles s due n p id e =
+resuming_tells s due n p id e =
     let u = with_resume s (s.resume - 1) in
     let r = repeating_none u p id in
-    either_settles (leb s.resume 1) (sent_next s due n p id) (cond (leb s.resume 10) (quiet u) (repeating u p id)) (sent_settles s due n p id)
-    (either_settles (leb s.resume 10) (quiet u) (repeating u p id) (sym e) (r.0 ∙ sym (ap condition_at r.1 ∙ e)))
+    either_tells (leb s.resume 1) (sent_next s due n p id) (cond (leb s.resume 10) (quiet u) (repeating u p id)) (sent_tells s due n p id)
+    (either_tells (leb s.resume 10) (quiet u) (repeating u p id) (sym e) (r.0 ∙ sym (ap condition_at r.1 ∙ e)))
 
 clash : {A : Type 0} → false ≡ true → A
 clash e = absurd (let z : ◌≡◌ {A = ℕ} 0 1 = cc in omega arith)
 
 module _ (s : Sequencer) (due n p id : ℕ) where
   -- where no word is repeated
-  pub settles : holds s.stage ≡ false → Settles (ticked s due n p id)
+  pub tells : holds s.stage ≡ false → Tells (ticked s due n p id)
   unfolding ticked
-  settles h = go s.stage refl h
+  tells h = go s.stage refl h
     where
-      go : (g : Stage) → s.stage ≡ g → holds g ≡ false → Settles (ticked_at g s due n p id)
+      go : (g : Stage) → s.stage ≡ g → holds g ≡ false → Tells (ticked_at g s due n p id)
       go stage.Idle e h = sym (ap condition_at e)
-      go stage.Starting e h = advancing_settles s due n p id (ap condition_at e)
-      go stage.Running e h = advancing_settles s due n p id (ap condition_at e)
+      go stage.Starting e h = advancing_tells s due n p id (ap condition_at e)
+      go stage.Running e h = advancing_tells s due n p id (ap condition_at e)
       go (stage.Paused k) e h = clash (sym h)
-      go stage.Resuming e h = resuming_settles s due n p id (ap condition_at e)
+      go stage.Resuming e h = resuming_tells s due n p id (ap condition_at e)
       go stage.Ended e h = clash (sym h)
 
   -- where one is
-  settled : holds s.stage ≡ true → (condition_in (ticked s due n p id).transmission ≡ 0) × ((ticked s due n p id).sequencer.stage ≡ s.stage)
+  pub settled : holds s.stage ≡ true → (condition_in (ticked s due n p id).transmission ≡ 0) × ((ticked s due n p id).sequencer.stage ≡ s.stage)
   unfolding ticked
   settled h = go s.stage h
     where
@@ -94,7 +94,7 @@ module _ (s : Sequencer) (due n p id : ℕ) where
       go stage.Ended e = repeating_none s p id
 
 -- none is told where no word is repeated, and none between stages that are the same
-unsettled : (g : Stage) → holds g ≡ false → condition_at g ≡ 0
+pub unsettled : (g : Stage) → holds g ≡ false → condition_at g ≡ 0
 unsettled stage.Idle h = refl
 unsettled stage.Starting h = refl
 unsettled stage.Running h = refl
@@ -122,9 +122,9 @@ abbrev pub Repeats : Stage → Sequencer → Type 0
 Repeats g s = holds g ≡ true → holds s.stage ≡ true
 
 -- so there are not two conditions
-pub alone : (s : Sequencer) (due n p id : ℕ) (g : Stage)
+pub alone_between : (s : Sequencer) (due n p id : ℕ) (g : Stage)
     → (condition_in (ticked s due n p id).transmission ≡ 0) ⊎ (condition_between g s.stage ≡ 0)
-alone s due n p id g = go (holds s.stage) refl
+alone_between s due n p id g = go (holds s.stage) refl
   where
     go : (b : Bool) → holds s.stage ≡ b → (condition_in (ticked s due n p id).transmission ≡ 0) ⊎ (condition_between g s.stage ≡ 0)
     go true h = inl (settled s due n p id h).0
@@ -167,4 +167,4 @@ condition_next s due n p id g o = go (holds s.stage) refl
     go true h = let w = settled s due n p id h in none_after t.transmission (condition_between g s.stage) w.0 ∙ ap (condition_between g) (sym w.1)
     go false h =
         ap (condition_after t.transmission) (none_between g s.stage h)
-        ∙ first_after t.transmission ∙ settles s due n p id h ∙ first (holds g) refl h
+        ∙ first_after t.transmission ∙ tells s due n p id h ∙ first (holds g) refl h

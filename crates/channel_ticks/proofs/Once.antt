@@ -1,4 +1,5 @@
--- What ticks in a row latch and count can be said at their end: D4 latches in any order with the one condition of their words, and once; the count of missing readbacks is its own beside the rest of the sequencer. Of any state. Assumes nothing.
+-- What ticks in a row latch and count can be said at their end: a word with a condition is repeated from then on, so no other has one; D4 latches in any
+-- order with it, and once; the count of missing readbacks is its own beside the rest of the sequencer. Of any state. Assumes nothing.
 use Prim.Native.Nat.{ℕ, ◌+◌, ◌-◌, ◌<◌}
 use mathlib.Core.Path.{◌≡◌, refl, ap, ◌∙◌}
 use mathlib.Core.Logic.{◌⊎◌, inl, inr}
@@ -18,11 +19,54 @@ use Rattle.sequencer.specs.Transmissions.{Transmission}
 use Rattle.sequencer.specs.Transmissions as transmission
 use Rattle.sequencer.specs.Transmissions.{Ticked}
 use Rattle.sequencer.specs.Playing.{shortfall, missing_with, with_left, with_resume, with_missing, sent_as, sent_next, repeated, quiet, advancing, repeating, resuming, ticked_at, ticked}
-use Rattle.sequencer.specs.Runs.{missing_after}
+use Rattle.sequencer.specs.Runs.{holds, missing_after}
 use Rattle.channel_core.specs.Behaviour.{shortfall_status, condition_status, latched_by, send_status, condition_in}
 use Rattle.channel_ticks.specs.Quiet.{quiet_at, quiet_ticks, after_quiet_at, after_quiet}
-use Rattle.channel_ticks.proofs.Conditions.{condition_after}
+use Rattle.channel_ticks.specs.Ticks.{condition_at}
+use Rattle.channel_ticks.proofs.Conditions.{condition_after, tells, settled, unsettled}
 use Rattle.channel_ticks.proofs.QuietTicks.{ne_some}
+
+-- ---- One word with a condition
+
+-- a tick with a condition leaves a word that is repeated
+abbrev Settles : Ticked → Type 0
+Settles t = (condition_in t.transmission ≡ 0) ⊎ (holds t.sequencer.stage ≡ true)
+
+pub settles : (s : Sequencer) (due n p id : ℕ) → Settles (ticked s due n p id)
+settles s due n p id = go (holds s.stage) refl
+  where
+    t : Ticked
+    t = ticked s due n p id
+
+    told : (b : Bool) → holds t.sequencer.stage ≡ b → condition_in t.transmission ≡ condition_at t.sequencer.stage → Settles t
+    told true h e = inr h
+    told false h e = inl (e ∙ unsettled t.sequencer.stage h)
+
+    go : (b : Bool) → holds s.stage ≡ b → Settles t
+    go true h = inl (settled s due n p id h).0
+    go false h = told (holds t.sequencer.stage) refl (tells s due n p id h)
+
+-- no condition so far, or a word that is repeated
+abbrev pub Once : ℕ → Sequencer → Type 0
+Once k s = (k ≡ 0) ⊎ (holds s.stage ≡ true)
+
+-- so not two of them
+pub alone : (s : Sequencer) (due n p id k : ℕ) → Once k s → (condition_in (ticked s due n p id).transmission ≡ 0) ⊎ (k ≡ 0)
+alone s due n p id k (inl e) = inr e
+alone s due n p id k (inr h) = inl (settled s due n p id h).0
+
+pub once_next : (s : Sequencer) (due n p id k : ℕ) → Once k s
+    → Once (condition_after (ticked s due n p id).transmission k) (ticked s due n p id).sequencer
+once_next s due n p id k (inr h) = inr (ap holds (settled s due n p id h).1 ∙ h)
+once_next s due n p id k (inl e) = go (ticked s due n p id).transmission (settles s due n p id)
+  where
+    after : Stage
+    after = (ticked s due n p id).sequencer.stage
+
+    go : (x : Transmission) → (condition_in x ≡ 0) ⊎ (holds after ≡ true) → (condition_after x k ≡ 0) ⊎ (holds after ≡ true)
+    go x (inr h) = inr h
+    go transmission.Nothing (inl d) = inl e
+    go (transmission.Word word j) (inl d) = inl (ap (λ (y : ℕ). cond (eqb y 0) k y) d ∙ e)
 
 -- ---- What is latched
 

@@ -36,7 +36,7 @@ use Rattle.channel_core.proofs.Laws.{line_none}
 use Rattle.channel_ticks.specs.Quiet.{quiet_ticks, channel_quiet_ticks, after_quiet}
 use Rattle.channel_ticks.specs.Ticks.{condition_between, ticks_of, answer_after, frames_in, frames_at, with_frame, sends_next, command_first, command_leaves, command_frames_first, with_command_frame, receiving_after, after_ticks, sent_if}
 use Rattle.channel_ticks.proofs.QuietTicks as sequencer
-use Rattle.channel_ticks.proofs.Conditions.{condition_after, Repeats, between_same, alone, repeats_next, condition_next}
+use Rattle.channel_ticks.proofs.Conditions.{condition_after, Repeats, between_same, alone_between, repeats_next, condition_next}
 use Rattle.channel_ticks.proofs.Once.{latched_next, missing_next, ticked_counting, quiet_counting, quiet_keeps, quiet_same}
 
 -- a channel after k quiet ticks: its sequencer's countdowns lowered
@@ -298,7 +298,7 @@ module _ (s : List ℕ) (n user : ℕ) where
       = ap (λ (z : Sequencer). between c z) b ∙ sym (condition_next q due n p id c.sequencer.stage x.repeats) in
       let missing : q'.missing ≡ missing_after sent q.last q.missing = ap (λ (z : Sequencer). z.missing) b ∙ (moved q due n p id).missing in
       let status : send_status (latched_by c.status q.missing condition) q.last sent ≡ latched_by c.status q'.missing condition'
-      = latched_next c.status q.missing condition q.last sent (alone q due n p id c.sequencer.stage) ∙ simp (missing, a) in
+      = latched_next c.status q.missing condition q.last sent (alone_between q due n p id c.sequencer.stage) ∙ simp (missing, a) in
       let count : missing_after sent q.last (missing_with before q.missing) ≡ missing_with before q'.missing
       = missing_next before q.missing q.last sent ∙ ap (missing_with before) (sym missing) in
       let y = after_next (first c) l k {e = after_ticks c condition' q' f'} {a = send_frame c.registers.id sent} x.after

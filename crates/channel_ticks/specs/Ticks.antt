@@ -51,7 +51,7 @@ abbrev pub receiving_after : Bool → ℕ → Bool
 receiving_after receiving frames = cond (ltb 0 frames) false receiving
 
 -- ---- What ticks in a row latch and count, once for all of them: no reply comes between them, and one of their words at most has a condition (`settles` of
--- proofs/Conditions: it is repeated then)
+-- proofs/Once: it is repeated then)
 
 -- the condition of the word that a stage repeats; 0: none
 abbrev pub condition_at : Stage → ℕ

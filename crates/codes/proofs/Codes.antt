@@ -1,7 +1,7 @@
 -- A code is the word's in two's complement, and an i32 holds it. Assumes nothing.
 use mathlib.Core.Path.{◌≡◌, refl, sym, ap}
 use mathlib.Core.Logic.{inl, inr}
-use Prim.Native.Nat.{ℕ, ◌-◌, ◌<◌}
+use Prim.Native.Nat.{ℕ, ◌-◌, ◌≤◌, ◌<◌}
 use mathlib.Core.Bool.{Bool, true, false, cond}
 use native.Mathlib.Nat.{lt_of_lt_of_le}
 use native.Mathlib.Omega.{arith}
@@ -10,12 +10,18 @@ use lib.IntN.{pos, negsuc, ◌-ℤ◌}
 use lib.Signed.{mag}
 use mir.Syntax.{w32}
 use mir.Val.{SFits}
-use borrow.Author.Tests.{lt-ltb, ltb-true, ltb-false}
+use borrow.Author.Tests.{lt-ltb, le-ltb, ltb-true, ltb-false}
 use Rattle.codes.specs.Codes.{code_of, TwosComplement, CodesSigned}
+
+pub code_low : (word : ℕ) → word < 32768 → code_of word ≡ pos word
+code_low word h = rw (lt-ltb word 32768 h)
 
 -- the word less 65,536
 less : (word : ℕ) → word < 65536 → pos word -ℤ pos 65536 ≡ negsuc (65535 - word)
 less word h = rw (lt-ltb word 65536 h) (ap negsuc (omega arith))
+
+pub code_high : (word : ℕ) → 32768 ≤ word → word < 65536 → code_of word ≡ pos word -ℤ pos 65536
+code_high word h k = rw (le-ltb word 32768 h) (sym (less word k))
 
 pub code_range : (word : ℕ) → mag (code_of word) < 32768
 code_range word = go (ltb word 32768) refl

@@ -2,7 +2,7 @@
 use mathlib.Core.Path.{◌≡◌, refl, sym, ap, ◌∙◌}
 use mathlib.Core.Bool.{Bool, cond}
 use mathlib.Core.List.{List, [], ◌∷◌, ◌++◌}
-use Prim.Native.Nat.{ℕ, zero, suc, ◌+◌, ◌*◌, ◌/◌, ◌%◌, ◌^◌, ◌<◌}
+use Prim.Native.Nat.{ℕ, zero, suc, ◌+◌, ◌*◌, ◌/◌, ◌%◌, ◌^◌, ◌≤◌, ◌<◌}
 use native.Mathlib.Nat.{mod-lt, div-one}
 use native.Mathlib.Numerals.{add-one}
 use native.Mathlib.Omega.{arith}
@@ -10,7 +10,7 @@ use lib.Dec.{lit<, eqb}
 use lib.Pow.{split, shr-shr}
 use lib.Bits.{bit_xor}
 use lib.ListN.{length, get_or, take}
-use lib.Seq.{take-suc}
+use lib.Seq.{take-suc, take_all}
 use Rattle.frame.specs.Crc.{crc_of, with_bits, of_bits, with_bytes, of_bytes, bit, bits_of, bits_in}
 use Rattle.frame.specs.Frames.{middle, crc_for}
 use Rattle.frame.proofs.Multiples.{one_or_none}
@@ -75,6 +75,9 @@ message_more s i h =
 pub crc_more : (s : List ℕ) (i : ℕ) → i < length s → get_or s i 0 < 2 ^ 8
     → crc_of (bit_xor (crc_of (of_bytes (take i s))) (get_or s i 0)) ≡ crc_of (of_bytes (take (i + 1) s))
 crc_more s i h b = sym (crc_byte (of_bytes (take i s)) (get_or s i 0) b) ∙ ap crc_of (sym (message_more s i h))
+
+pub crc_all : (s : List ℕ) (i : ℕ) → length s ≤ i → crc_of (of_bytes (take i s)) ≡ crc_of (of_bytes s)
+crc_all s i h = ap (λ (l : List ℕ). crc_of (of_bytes l)) (take_all i s h)
 
 -- bytes brought in one after the other, from the remainder r: each leaves the CRC of remainder and byte together
 abbrev pub updated : ℕ → List ℕ → ℕ

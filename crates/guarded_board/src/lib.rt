@@ -31,6 +31,22 @@ pub fn open(
     Ok(GuardedBoard { board, rights })
 }
 
+// Opens the board anew on the memory lent, with these rights. Where that is refused the closed board is in its place, with them too.
+pub fn reopen(
+    g: &mut GuardedBoard,
+    n: u32,
+    m: u32,
+    rights: BoardRights,
+    setpoints: &[u32],
+    readbacks: &[u32],
+) -> Result<(), Refusal>
+    ensures board { g.new ≡ guarded (open_board n m (length setpoints.now) (length readbacks.now)) rights }
+    ensures answer { outcome_of result ≡ open_answer n m (length setpoints.now) (length readbacks.now) }
+{
+    g.rights = rights;
+    board::reopen(&mut g.board, n, m, setpoints, readbacks)
+}
+
 // A channel's frame as the role is shown it.
 fn shown_frame(rights: &BoardRights, role: Role, number: u32, frame: Option<u64>) -> Option<u64>
     ensures { line_of result ≡ shown_frame (rights_at rights.now number) role (line_of frame) }

@@ -178,11 +178,11 @@ data_read f = go (framed f)
     go false = tt
 
 -- one of two words
-pub selected_range : (first : Bool) (a b : Option AdcWord) → AdcInRange a → AdcInRange b → AdcInRange (cond first a b)
+pub selected_range : (first : Bool) (a b : AdcWord) → AdcInRange a → AdcInRange b → AdcInRange (cond first a b)
 selected_range true a b i j = i
 selected_range false a b i j = j
 
-replied_range : (w : AdcWords) (before : ℕ) (a : Option AdcWord) → AdcWordsInRange w → AdcInRange a → AdcWordsInRange (with_reply w before a)
+replied_range : (w : AdcWords) (before : ℕ) (a : AdcWord) → AdcWordsInRange w → AdcInRange a → AdcWordsInRange (with_reply w before a)
 unfolding with_reply
 replied_range w before a h i =
     record {
@@ -217,7 +217,7 @@ module _ (m : ℕ) where
         status = record { enable = refl; interrupt = none_range; polling = none_range };
         registers = record { clock = omega arith; active = refl; id = omega arith; events = refl; switches = refl; delays = refl };
         readbacks = record { stored = omega arith; retired = omega arith };
-        adc = record { third = tt; fourth = tt; fifth = tt; sixth = tt };
+        adc = record { third = omega arith; fourth = omega arith; fifth = omega arith; sixth = omega arith };
         download = tt;
         commands = record { count = omega arith; replies = refl };
       }
@@ -323,7 +323,7 @@ module _ (m : ℕ) where
         status = crc_range c.status right h.status;
         registers = h.registers;
         readbacks = h.readbacks;
-        adc = replied_range c.adc (send_of c.sequencer.last).replies (adc_word false right word) h.adc tt;
+        adc = replied_range c.adc (send_of c.sequencer.last).replies (adc_word false right word) h.adc fits;
         download = h.download;
         commands = h.commands;
       }

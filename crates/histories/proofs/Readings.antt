@@ -20,19 +20,20 @@ use Rattle.adc_words.specs.declared.AdcWord.{AdcWord}
 use Rattle.adc_words.specs.declared.AdcWords.{AdcWords}
 use Rattle.adc_words.specs.Positions.{adc_word, no_reply, none_arrived, with_reply, arrived, words_of}
 use Rattle.adc_words.proofs.Laws.{one_more, arrived_more, arrived_none}
-use Rattle.sequencer.specs.Playing.{send_of}
+use Rattle.sequencer.specs.declared.LastSend.{LastSend}
+use Rattle.sequencer.specs.Playing.{send_of, replies_of}
 use Rattle.readback.specs.declared.Disposition.{Disposition}
 use Rattle.readback.specs.declared.Disposition.TheVariants as disposition
 use Rattle.command_frames.specs.Commanding.{takes}
 use Rattle.channel_core.specs.declared.Channel.{Channel}
 use Rattle.channel_core.specs.Answers.{Answer, is_received}
 use Rattle.channel_core.specs.Answers as ans
-use Rattle.channel_core.specs.Results.{volts, damaged}
+use Rattle.channel_core.specs.Results.{volts, lost, damaged}
 use Rattle.channel_core.specs.State.{reset}
 use Rattle.channel_core.specs.State as state
 use Rattle.channel_core.specs.Behaviour.{group_ended, ended_if, user_changed, played_of, tick_of, tick_answer}
 use Rattle.channel_replies.specs.Replying.{disposition_now, receipt_answer, received_channel, command_reply, reply_answer_as, reply_as, reply_answer, reply_of}
-use Rattle.channel_readings.specs.Measuring.{measured, readings_answer}
+use Rattle.channel_readings.specs.Measuring.{measured, measurement, readings_answer}
 use Rattle.channel_registers.specs.Calls.{register_effect}
 use Rattle.channel.specs.Calls.{armed_of, disarmed_of}
 use Rattle.channel.specs.Downloads.{download_opened}
@@ -42,7 +43,7 @@ use Rattle.channel.proofs.Cases.{clash, either}
 use Rattle.histories.specs.History.{is_kept, adc_in, no_adc, Entry, entry, Told, told, asks, ends_group, resets, sent_id, sends_setpoint, receives}
 use Rattle.histories.specs.Windows.{Window, closed, idles}
 use Rattle.histories.specs.Ranges.{AdcInRange, AdcWordsInRange, ChannelInRange}
-use Rattle.histories.specs.Readings.{becomes, replies_after, replies_since, replies_over, readings_by, SaysStored, Says, ReadingsTold, ReadingsSay, NoneLost}
+use Rattle.histories.specs.Readings.{becomes, replies_after, replies_since, replies_over, readings_by, Says, ReadingsTold, ReadingsSay, NoneLost}
 use Rattle.histories.proofs.Accepted.{query_plain}
 use Rattle.histories.proofs.Buffered.{told_at}
 use Rattle.histories.proofs.Calls.{steps, main_plain}
@@ -58,13 +59,13 @@ use Rattle.histories.proofs.Windows.{window_held}
 
 -- ---- One call: it idles, sends, has one more reply `a` received, or none of these
 
-module _ (w : Window) (id : ℕ) (l : List (Option AdcWord)) (a : Option AdcWord) where
+module _ (w : Window) (id : ℕ) (l : List AdcWord) (a : AdcWord) where
   abbrev window : (idle sends more : Bool) → Window
   window idle sends more =
       cond idle closed
       (cond sends (record { sent = true; id = id; replies = 0 }) (cond more (record { sent = w.sent; id = w.id; replies = w.replies + 1 }) w))
 
-  abbrev replies : (idle sends more : Bool) → List (Option AdcWord)
+  abbrev replies : (idle sends more : Bool) → List AdcWord
   replies idle sends more = cond idle [] (cond sends [] (cond more (l ++ (a ∷ [])) l))
 
   count_after_lem : (idle sends more : Bool) → w.replies ≡ length l → (window idle sends more).replies ≡ length (replies idle sends more)
@@ -93,13 +94,13 @@ module _ (w : Window) (id : ℕ) (l : List (Option AdcWord)) (a : Option AdcWord
 -- ---- What each call makes of the ADC words
 
 -- a channel with them, after a call with this answer, a reset or not; `reply` is what it brings, stored or not
-abbrev AdcStep : Channel → Answer → (again : Bool) → (reply : Bool → Option AdcWord) → Channel → Type 0
+abbrev AdcStep : Channel → Answer → (again : Bool) → (reply : Bool → AdcWord) → Channel → Type 0
 AdcStep c a again reply d =
     d.adc
     ≡ cond again none_arrived
     (cond (is_received a && not (takes c.commands)) (with_reply c.adc (send_of c.sequencer.last).replies (reply (is_kept a))) c.adc)
 
-plain_adc : (c : Channel) (a : Answer) (reply : Bool → Option AdcWord) (d : Channel) → is_received a ≡ false → d.adc ≡ c.adc → AdcStep c a false reply d
+plain_adc : (c : Channel) (a : Answer) (reply : Bool → AdcWord) (d : Channel) → is_received a ≡ false → d.adc ≡ c.adc → AdcStep c a false reply d
 plain_adc c a reply d plain e = e ∙ sym (rw plain)
 
 ended_adc : (on : Bool) (c : Channel) → (ended_if on c).adc ≡ c.adc
@@ -170,7 +171,7 @@ adc_step o k =
 -- ---- Along a list
 
 -- a channel holds these replies; none, where there is no send
-pub record Holds (o : OneChannel) (l : List (Option AdcWord)) : Type 0 where
+pub record Holds (o : OneChannel) (l : List AdcWord) : Type 0 where
   pub count : (send_of o.channel.sequencer.last).replies ≡ length l
   pub words : arrived o.channel.adc (send_of o.channel.sequencer.last).replies ≡ words_of l
   pub none : is_some o.channel.sequencer.last ≡ false → l ≡ []
@@ -183,7 +184,7 @@ reset_idles e r = rw r (go (ends_group e))
     go true = refl
     go false = refl
 
-holds_step : (o : OneChannel) (k : ChannelCall) (l : List (Option AdcWord)) → Ordered o.channel → ChannelInRange o.m o.channel → Holds o l
+holds_step : (o : OneChannel) (k : ChannelCall) (l : List AdcWord) → Ordered o.channel → ChannelInRange o.m o.channel → Holds o l
     → Holds (transition o k) (replies_after l (told_at o k))
 holds_step o k l g r h =
     let t = told_at o k in
@@ -203,7 +204,7 @@ holds_step o k l g r h =
           (sym (ap (λ (x : Window). x.sent) after) ∙ e);
     }
 
-holds_from : (o : OneChannel) (ks : List ChannelCall) (l : List (Option AdcWord)) → Ordered o.channel → ChannelInRange o.m o.channel → Holds o l
+holds_from : (o : OneChannel) (ks : List ChannelCall) (l : List AdcWord) → Ordered o.channel → ChannelInRange o.m o.channel → Holds o l
     → Holds (transitions o ks) (replies_since l (told_from o ks))
 unfolding replies_since told
 holds_from o [] l g r h = h
@@ -219,20 +220,27 @@ holds n m setpoints readbacks ks =
 
 -- ---- The readings
 
+-- as many as the last send holds, where there is one
+replies_held : (l : Option LastSend) → replies_of l ≡ (send_of l).replies
+replies_held None = refl
+replies_held (Some l) = refl
+
 pub readings_told : ReadingsTold
 unfolding response refusal_of answer readings_answer
-readings_told n m setpoints readbacks ks one two = rw (holds n m setpoints readbacks ks).words
+readings_told n m setpoints readbacks ks one two =
+    let c = (transitions (one_channel n m setpoints readbacks) ks).channel in
+    ap (λ (k : ℕ). measurement (arrived c.adc k)) (replies_held c.sequencer.last) ∙ rw (holds n m setpoints readbacks ks).words
 
-measured_says : (a : Option AdcWord) → AdcInRange a → Says a (measured a)
+measured_says : (a : AdcWord) → AdcInRange a → Says a.stored a.right a.«data» (measured a)
 unfolding measured
-measured_says None i = refl
-measured_says (Some a) i = go a.right
+measured_says a i = go a.stored a.right
   where
-    go : (right : Bool) → SaysStored right a.«data» (cond right (volts (voltage_of a.«data»)) damaged)
-    go true = (voltage_of a.«data», refl, voltage_exact a.«data» i)
-    go false = refl
+    go : (stored right : Bool) → Says stored right a.«data» (cond stored (cond right (volts (voltage_of a.«data»)) damaged) lost)
+    go true true = (voltage_of a.«data», refl, voltage_exact a.«data» i)
+    go true false = refl
+    go false right = refl
 
-in_place : (l : List (Option AdcWord)) → AdcWordsInRange (words_of l) → (k : ℕ) → 2 ≤ k → k ≤ 5 → AdcInRange (get_or l k no_reply)
+in_place : (l : List AdcWord) → AdcWordsInRange (words_of l) → (k : ℕ) → 2 ≤ k → k ≤ 5 → AdcInRange (get_or l k no_reply)
 in_place l h zero low high = absurd (omega arith)
 in_place l h (suc zero) low high = absurd (omega arith)
 in_place l h (suc (suc zero)) low high = h.third
@@ -248,7 +256,7 @@ in_range n m setpoints readbacks ks = (channel_from (one_channel n m setpoints r
 arrived_range : (w : AdcWords) (k : ℕ) → AdcWordsInRange w → AdcWordsInRange (arrived w k)
 unfolding arrived
 arrived_range w k h =
-    let none : AdcInRange no_reply = tt in
+    let none : AdcInRange no_reply = omega arith in
     record {
       third = selected_range (ltb 2 k) w.third no_reply h.third none;
       fourth = selected_range (ltb 3 k) w.fourth no_reply h.fourth none;

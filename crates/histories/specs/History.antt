@@ -4,7 +4,7 @@
 -- frame carries, read from the frame, and which register a call reads. Card 6: what a call makes of tags (specs/TagChanges). Card 7: a reply as an
 -- ADC word, by its own frame. Card 8: which calls open a download. Card 10: which are ticks. Of the state before a call only the code of the Group End
 -- event (which `TagsTold`, specs/Tags, has told by writes), the current user, and what a stored word says of the last send are looked at.
-use Rattle.std.specs.Prelude.{ℕ, ◌+◌, Bool, true, false, cond, not, ◌&&◌, ◌||◌, List, [], ◌∷◌, eqb, Option}
+use Rattle.std.specs.Prelude.{ℕ, ◌+◌, Bool, true, false, cond, not, ◌&&◌, ◌||◌, List, [], ◌∷◌, eqb}
 use Rattle.frame.specs.Frames.{Reading, read, crc_right}
 use Rattle.frame.specs.Frames as frame
 use Rattle.status.specs.Bits.{bit_at}
@@ -43,12 +43,12 @@ reply_word o (frame.refused k) = []
 reply_word o (frame.fields id word aux crc) = stored_word (send_of o.channel.sequencer.last) o.user (not (crc_right id word aux crc)) id word ∷ []
 
 -- a reply as an ADC word, stored or not: whether the CRC of its own frame is right, and its data
-abbrev pub adc_in : Reading → (stored : Bool) → Option AdcWord
+abbrev pub adc_in : Reading → (stored : Bool) → AdcWord
 adc_in (frame.refused k) stored = no_reply
 adc_in (frame.fields id word aux crc) stored = adc_word stored (crc_right id word aux crc) word
 
 -- of a call that brings no reply
-abbrev pub no_adc : (stored : Bool) → Option AdcWord
+abbrev pub no_adc : (stored : Bool) → AdcWord
 no_adc stored = no_reply
 
 -- a reply that was answered kept
@@ -98,7 +98,7 @@ pub record Asks : Type 0 where
   -- the word that a reply brings
   pub word : List ℕ
   -- that reply as an ADC word, stored or not
-  pub adc : (stored : Bool) → Option AdcWord
+  pub adc : (stored : Bool) → AdcWord
   -- a read of the channel's register at this offset
   pub reads : ℕ → Bool
   -- what it makes of command frames
@@ -126,7 +126,7 @@ group_end_if on g =
 abbrev pub idle_if : Bool → CommandChange → TagChange → Asks
 idle_if on f g = record { group_end = false; reset = false; idle = on; opens = false; ticks = false; word = []; adc = no_adc; reads = reads_nothing; commands = f; tags = g }
 
-abbrev pub bringing : List ℕ → (Bool → Option AdcWord) → CommandChange → Asks
+abbrev pub bringing : List ℕ → (Bool → AdcWord) → CommandChange → Asks
 bringing word a f = record { group_end = false; reset = false; idle = false; opens = false; ticks = false; word = word; adc = a; reads = reads_nothing; commands = f; tags = leaves_tags }
 
 abbrev pub reading : ℕ → Asks

@@ -77,8 +77,8 @@ pub record ReadbacksInRange (m : ℕ) (r : Readbacks) : Type 0 where
   pub retired : r.retired ≤ m - 1
 
 -- the data of an ADC word has 16 bits
-abbrev pub AdcInRange : Option AdcWord → Type 0
-AdcInRange a = IfSome a (λ w. w.«data» < 65536)
+abbrev pub AdcInRange : AdcWord → Type 0
+AdcInRange a = a.«data» < 65536
 
 pub record AdcWordsInRange (w : AdcWords) : Type 0 where
   pub third : AdcInRange w.third

@@ -8,7 +8,7 @@ const ROOM: usize = 8192;
 
 // What is gathered is at the start of `bytes`: an array, since printing may not fail for want of memory. A write that fails closes the printer: nothing is gathered or written any more, so that
 // what was written is always the first part of what was printed.
-#[derive(Drop)]
+#[derive(Clone, Copy)]
 pub struct Printer {
     out: Stdout,
     bytes: [u8; ROOM],

@@ -1,4 +1,5 @@
 -- The range of a code, and its offset binary; an answer that is no refusal. Assumes nothing.
+use mathlib.Core.Path.{◌≡◌, ap}
 use Prim.Native.Nat.{ℕ, suc, ◌+◌, ◌-◌, ◌<◌}
 use native.Mathlib.Omega.{arith}
 use lib.Dec.{leb→le, le→leb}
@@ -22,3 +23,6 @@ offset_in (negsuc a) g h = let l = leb→le a 32767 g.le in (32767 - a, omega ar
 abbrev pub words_plus_one : Answer → ℕ
 words_plus_one (wrote k) = suc k
 words_plus_one (refused k) = 0
+
+pub refused_wrote : (number words : ℕ) → refused number ≡ wrote words → ⊥
+refused_wrote number words e = let h = ap words_plus_one e in omega arith

@@ -1,8 +1,9 @@
 -- The test is of just the rules. Assumes nothing.
 use mathlib.Core.Path.{◌≡◌, refl, ◌∙◌}
 use Prim.Native.Nat.{ℕ, ◌≤◌, ◌<◌}
+use native.Mathlib.Omega.{arith}
 use mathlib.Core.Bool.{Bool, true, false, ◌&&◌}
-use mathlib.Core.List.{List}
+use mathlib.Core.List.{List, []}
 use lib.Dec.{leb, ltb, eqb}
 use lib.ListN.{length}
 use borrow.Author.Tests.{leb-true, ltb-true, eqb-true, le-leb, lt-ltb, eq-eqb}
@@ -66,3 +67,10 @@ module _ (ps : List Breakpoint) (n c d : ℕ) where
       go : (b : Bool) → is_valid ps n c d ≡ b → is_valid ps n c d ≡ false
       go true e = absurd (h (valid_rules e))
       go false e = e
+
+-- a list that is too long, and an empty one, are refused alike
+pub long_invalid : (ps : List Breakpoint) (n c d : ℕ) → 64 < length ps → is_valid ps n c d ≡ false
+long_invalid ps n c d h = broken ps n c d (λ r. let k = r.at_most in omega arith)
+
+pub empty_invalid : (n c d : ℕ) → is_valid [] n c d ≡ false
+empty_invalid n c d = broken [] n c d (λ r. let k = r.at_least in omega arith)

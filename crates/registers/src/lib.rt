@@ -98,8 +98,8 @@ fn flip(active: &mut [bool; 16], switches: &[bool; 8])
 }
 
 impl Event {
-    // Its register's place from 20h.
-    fn place(self) -> usize
+    // Its register's place from 20h, and in `events`.
+    pub fn place(self) -> usize
         ensures { result ≡ place_of self }
     {
         match self {

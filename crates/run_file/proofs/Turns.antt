@@ -59,15 +59,16 @@ chunk part {chunk} {rest} {next} k e f n =
       sym (drop_at chunk next 8 n) ∙ ap (drop 8) here ∙ drop-drop 8 (8 * k) part ∙ ap (λ (i : ℕ). drop i part) after,
     )
 
-pub world_more : (part : List ℕ) {bytes : List ℕ} (k : ℕ) {w v : World} {q : Asked} → w ≡ world_after start part k → v ≡ after w q → q ≡ asked_of bytes
-    → bytes ≡ take 8 (drop (8 * k) part) → v ≡ world_after start part (k + 1)
+pub world_more : (first : World) (part : List ℕ) {bytes : List ℕ} (k : ℕ) {w v : World} {q : Asked} → w ≡ world_after first part k → v ≡ after w q
+    → q ≡ asked_of bytes → bytes ≡ take 8 (drop (8 * k) part) → v ≡ world_after first part (k + 1)
 unfolding world_after
-world_more part k e f g h = f ∙ rw (e, g, h, add-one) refl
+world_more first part k e f g h = f ∙ rw (e, g, h, add-one) refl
 
-pub counts_more : (part : List ℕ) {bytes : List ℕ} (k : ℕ) {w : World} {q : Asked} {c d : Counts} → w ≡ world_after start part k → c ≡ counts_after start part k
-    → d ≡ tallies c (answers w q) → q ≡ asked_of bytes → bytes ≡ take 8 (drop (8 * k) part) → stepped d ≡ counts_after start part (k + 1)
+pub counts_more : (first : World) (part : List ℕ) {bytes : List ℕ} (k : ℕ) {w : World} {q : Asked} {c d : Counts} → w ≡ world_after first part k
+    → c ≡ counts_after first part k → d ≡ tallies c (answers w q) → q ≡ asked_of bytes → bytes ≡ take 8 (drop (8 * k) part)
+    → stepped d ≡ counts_after first part (k + 1)
 unfolding counts_after
-counts_more part k e f g h i = rw (g, e, f, h, i, add-one) refl
+counts_more first part k e f g h i = rw (g, e, f, h, i, add-one) refl
 
 -- the board of a run is opened
 pub is_open : (r : Result Board Refusal) → opening_of r ≡ open_answer 16 64 1024 512 → IsOk r

@@ -4,11 +4,29 @@
 ghost use Rattle.std.specs.Prelude.{◌≡◌, ◌/◌, length};
 ghost use Rattle.log_line.specs.Lines.{Fills};
 ghost use Rattle.tally.specs.Answers.{ran_of};
+ghost use Rattle.board.specs.Worlds.{world};
 ghost use Rattle.run_file.specs.Runs.{start, world_after, counts_after, run_of, run_line};
 
+use board_state::Board;
 use refusal::Refusal;
 use replay::RunState;
 use tally::Counts;
+
+// All records of the part, from a board and its memory.
+fn play(board: Board, part: &[u8], setpoints: &mut [u32], readbacks: &mut [u32]) -> RunState
+    ensures world { world result.board setpoints.new readbacks.new ≡ world_after (world board setpoints.old readbacks.old) part.now (length part.now / 8) }
+    ensures counts { result.counts ≡ counts_after (world board setpoints.old readbacks.old) part.now (length part.now / 8) }
+{
+    let mut state = RunState {
+        board,
+        counts: Counts::nothing(),
+    };
+    for record in part.chunks_exact(8) {
+        state.apply(setpoints, readbacks, records::decode(record));
+        state.counts.step();
+    }
+    state
+}
 
 // The records run on a zeroed board of depths 16 and 64: that board after them, and the six counts.
 pub fn run_records(part: &[u8]) -> RunState
@@ -17,15 +35,8 @@ pub fn run_records(part: &[u8]) -> RunState
 {
     let mut setpoints = [0u32; 1024];
     let mut readbacks = [0u32; 512];
-    let mut state = RunState {
-        board: board::open(16, 64, &setpoints, &readbacks).unwrap(),
-        counts: Counts::nothing(),
-    };
-    for record in part.chunks_exact(8) {
-        state.apply(&mut setpoints, &mut readbacks, records::decode(record));
-        state.counts.step();
-    }
-    state
+    let board = board::open(16, 64, &setpoints, &readbacks).unwrap();
+    play(board, part, &mut setpoints, &mut readbacks)
 }
 
 // The run of a file: refused 8, or the six counts.

@@ -19,28 +19,23 @@ pub struct Bench {
     pub pools: Pools,
 }
 
-// The board that a refused opening leaves: no depths, the rights that it named, all else as at an opening.
-fn closed(rights: BoardRights) -> GuardedBoard {
-    GuardedBoard {
-        board: Board::opened(0, 0),
-        rights,
-    }
-}
-
 impl Bench {
     // The pools filled and the board of the header opened. The answer is printed as record 0.
     pub fn begin(printer: Printer, header: Header) -> Bench {
-        let rights = roles::board_rights(0xff, 0x0f);
         let mut bench = Bench {
             printer,
-            board: closed(rights),
+            // Nothing depends on this one: the opening below leaves another in its place, refused or not.
+            board: GuardedBoard {
+                board: Board::opened(0, 0),
+                rights: BoardRights::none(),
+            },
             pools: Pools::filled(header.seed, header.mask),
         };
         bench.printer.decimal(0);
         bench.open(
             header.n,
             header.m,
-            rights,
+            roles::board_rights(0xff, 0x0f),
             header.n as usize * 64,
             header.m as usize * 8,
         );
@@ -71,15 +66,15 @@ impl Bench {
 
     // Opens a board over the first words of both pools, or as many of them as there are.
     fn open(&mut self, n: u32, m: u32, rights: BoardRights, setpoints: usize, readbacks: usize) {
-        let opened = guarded_board::open(
+        let answer = guarded_board::reopen(
+            &mut self.board,
             n,
             m,
             rights,
             pool::front(&self.pools.setpoints, setpoints),
             pool::front(&self.pools.readbacks, readbacks),
         );
-        self.board = opened.unwrap_or(closed(rights));
-        printed_calls::done(&mut self.printer, opened.map(|_board| ()));
+        printed_calls::done(&mut self.printer, answer);
     }
 
     fn open_again(&mut self, record: Record) {

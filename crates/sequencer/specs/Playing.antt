@@ -72,6 +72,11 @@ abbrev pub send_of : Option LastSend → LastSend
 send_of None = record { first = false; paused = false; last = false; id = 0; tagged = false; replies = 0 }
 send_of (Some l) = l
 
+-- "the replies after it": to no send there are none (document 02, card 7: "with none, all four are lost")
+abbrev pub replies_of : Option LastSend → ℕ
+replies_of None = 0
+replies_of (Some l) = l.replies
+
 -- "channels disarmed", nothing under way, nothing counted
 abbrev pub opened : Sequencer
 opened =

@@ -6,8 +6,8 @@
 mod ticks;
 mod words;
 
-ghost use Rattle.std.specs.Prelude.{◌≡◌, ◌≤◌};
-ghost use Rattle.sequencer.specs.Playing.{opened, unfinished, send_of, shortfall, missing_with, idled, armed, disarmed, started, resumed, answered, group_ended, tagged, with_missing};
+ghost use Rattle.std.specs.Prelude.{◌≡◌, ◌≤◌, Some};
+ghost use Rattle.sequencer.specs.Playing.{opened, unfinished, send_of, shortfall, missing_with, idled, armed, disarmed, started, resumed, replies_of, answered, group_ended, tagged, with_missing};
 
 use status::Condition;
 
@@ -90,6 +90,20 @@ pub struct Sent {
     pub condition: Option<Condition>,
 }
 
+impl LastSend {
+    // How many of the six replies are missing after a send of Frame ID 15h; none after another send.
+    #[tactic(auto, unfolding(crate::specs::Playing::shortfall))]
+    pub fn shortfall(self) -> u8
+        ensures { result ≡ shortfall (Some self) }
+    {
+        if self.id == READBACK_ID {
+            READBACKS.saturating_sub(self.replies)
+        } else {
+            0
+        }
+    }
+}
+
 impl Sequencer {
     pub fn opened() -> Sequencer
         ensures { result ≡ opened }
@@ -115,14 +129,14 @@ impl Sequencer {
         self.last.unwrap_or_default()
     }
 
-    // How many of the six replies are missing after a send of Frame ID 15h; none after another send, or no send.
+    // The same after the last send; none where there is no send.
     #[tactic(auto, unfolding(crate::specs::Playing::shortfall))]
     pub fn shortfall(&self) -> u8
         ensures { result ≡ shortfall self.now.last }
     {
         match self.last {
-            Some(send) if send.id == READBACK_ID => READBACKS.saturating_sub(send.replies),
-            _ => 0,
+            Some(send) => send.shortfall(),
+            None => 0,
         }
     }
 
@@ -184,6 +198,13 @@ impl Sequencer {
             self.stage = Stage::Resuming;
             self.resume = u64::from(delay) + 10;
         }
+    }
+
+    // How many replies came after the last send; none where there is no send.
+    pub fn replies(&self) -> u8
+        ensures { result ≡ replies_of self.now.last }
+    {
+        self.last.map_or(0, |send| send.replies)
     }
 
     // A reply after the last send, kept or lost.

@@ -1,14 +1,15 @@
 -- Bits of a word, and the word of a list of bits: what the proofs of the functions cite. Assumes nothing.
-use Prim.Native.Nat.{ℕ, ◌+◌, ◌*◌, ◌/◌, ◌%◌, ◌^◌, ◌<◌, ◌≤◌}
+use Prim.Native.Nat.{ℕ, suc, ◌+◌, ◌-◌, ◌*◌, ◌/◌, ◌%◌, ◌^◌, ◌<◌, ◌≤◌}
 use mathlib.Core.Path.{◌≡◌, refl, sym, ap, ◌∙◌}
 use mathlib.Core.List.{List, [], ◌∷◌, ◌++◌}
 use mathlib.Core.Bool.{Bool, true, false}
 use mir.Val.{bool_byte}
 use native.Mathlib.Omega.{arith}
 use native.Mathlib.Nat.{pow-suc, div-eq_of_lt}
-use lib.ListN.{length}
+use lib.ListN.{length, get_or, drop, length-drop, drop_of_length-le}
 use lib.Dec.{eqb}
 use lib.Pow.{pow_mono}
+use lib.Seq.{drop-cons}
 use borrow.Author.Tests.{eq-eqb, ne_eqb}
 use Rattle.std.proofs.lemmas.Nat.{and_block, and_mask}
 use lib.Bits.{bit_and}
@@ -43,6 +44,24 @@ word_below : (l : List Bool) → word_of_bits l < 2 ^ length l
 unfolding word_of_bits
 word_below [] = omega arith
 word_below (b ∷ l) = omega (arith, pow-suc 2 (length l), word_below l, bit_small b)
+
+-- of sixteen bits, those from k on
+module _ (a : List Bool) (l : length a ≡ 16) where
+  pub word_none : 0 ≡ word_of_bits (drop 16 a)
+  unfolding word_of_bits
+  word_none = sym (ap word_of_bits (drop_of_length-le a {i = 16} (omega arith)))
+
+  pub word_small : (k : ℕ) → word_of_bits (drop k a) < 65536
+  word_small k =
+      let s : length (drop k a) ≤ 16 = rw length-drop (omega arith) in
+      let m : 2 ^ length (drop k a) ≤ 65536 = pow_mono s in
+      omega (arith, word_below (drop k a))
+
+  pub word_back : (k : ℕ) → 0 < k → k ≤ 16 → bit_of (get_or a (k - 1) false) + 2 * word_of_bits (drop k a) ≡ word_of_bits (drop (k - 1) a)
+  unfolding word_of_bits
+  word_back k h s =
+      let e : suc (k - 1) ≡ k = omega arith in
+      sym (ap word_of_bits (drop-cons a (k - 1) false (omega arith)) ∙ ap (λ (j : ℕ). bit_of (get_or a (k - 1) false) + 2 * word_of_bits (drop j a)) e)
 
 -- the word of a list of bits with those of `word` above them
 pub below_word : List Bool → ℕ → ℕ

@@ -68,7 +68,7 @@ pub fn kept_enable(value: u16) -> u16
 
 impl Condition {
     // Its bit.
-    fn bit(self) -> u32
+    pub fn bit(self) -> u32
         ensures { result ≡ condition_bit self }
     {
         match self {
@@ -134,11 +134,17 @@ impl Status {
     }
 
     // A condition happens: it latches in both copies, and sets both Main bits where it is enabled.
-    #[tactic(auto, unfolding(crate::specs::Latching::latched))]
     pub fn latch(&mut self, condition: Condition)
         ensures { self.new ≡ latched self.old (condition_bit condition) }
     {
-        let bit = condition.bit();
+        self.latch_bit(condition.bit());
+    }
+
+    // The same by its bit, and of any other bit.
+    #[tactic(auto, unfolding(crate::specs::Latching::latched))]
+    pub fn latch_bit(&mut self, bit: u32)
+        ensures { self.new ≡ latched self.old bit }
+    {
         let on = is_set(self.enable, bit);
         self.interrupt.latch(bit, on);
         self.polling.latch(bit, on);
